@@ -1,0 +1,5 @@
+pub mod Flags
+pub mod Finite
+pub mod Laws
+pub mod Order
+pub mod Starred

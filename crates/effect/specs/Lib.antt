@@ -1,0 +1,4 @@
+pub mod Effect
+pub mod Example
+pub mod Order
+pub mod Starred
