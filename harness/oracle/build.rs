@@ -18,7 +18,9 @@ fn main() {
     for file in FILES.map(|file| sources.join(file)) {
         println!("cargo::rerun-if-changed={}", file.display());
         let name = file.file_name().expect("a file's name");
-        fs::copy(&file, out.join(name)).expect("a file can be copied");
+        // Not `fs::copy`: the sources may be read-only, and a copy must be writable the next time.
+        let bytes = fs::read(&file).expect("a file can be read");
+        fs::write(out.join(name), bytes).expect("OUT_DIR can be written");
     }
 }
 

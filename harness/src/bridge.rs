@@ -7,9 +7,10 @@ use std::{
     panic::{AssertUnwindSafe, catch_unwind, resume_unwind},
 };
 
+pub use vine::components::analyzer::{effect::Effect, probe::EFFECTS};
 use vine::{
     components::{
-        analyzer::{self, effect::Effect},
+        analyzer::{self, EffectVar},
         finder::{FinderCache, FlexImpls, NoRoom, TirImpl},
         normalizer::normalize,
     },
@@ -157,10 +158,7 @@ impl Notes {
                 let ret = last(&mut ports);
                 vir::Header::Closure(ports, ret)
             }
-            header::FORK => {
-                let [a, b] = exactly(ports);
-                vir::Header::Fork(a, b)
-            }
+            header::FORK => of_two(ports, vir::Header::Fork),
             header::DROP => vir::Header::Drop,
             header::ENTRY => vir::Header::Entry(ports),
             _ => unreachable!("a checked header"),
@@ -209,6 +207,13 @@ impl Notes {
     }
 }
 
+/// `Invocation::effect` for the invocation of a tag, 0 to 5.
+pub fn invocation_effect(tag: u8, inverse: bool, fork: bool) -> Effect {
+    let ports = if tag == tag::READ_WRITE { 2 } else { 1 };
+    let ports = Notes::default().ports_to_vir(&vec![Port::default(); ports], 0);
+    analyzer::probe::invocation_effect(&invocation(tag, ports), inverse, fork)
+}
+
 fn last(ports: &mut Vec<vir::Port>) -> vir::Port {
     ports.pop().expect("a checked count of ports")
 }
@@ -224,10 +229,7 @@ fn invocation(tag: u8, mut ports: Vec<vir::Port>) -> Invocation {
         tag::WRITE => Invocation::Write(last(&mut ports)),
         tag::READ_BARRIER => Invocation::ReadBarrier(last(&mut ports)),
         tag::BARRIER_WRITE => Invocation::BarrierWrite(last(&mut ports)),
-        tag::READ_WRITE => {
-            let [a, b] = exactly(ports);
-            Invocation::ReadWrite(a, b)
-        }
+        tag::READ_WRITE => of_two(ports, Invocation::ReadWrite),
         _ => unreachable!("a checked tag"),
     }
 }
@@ -236,45 +238,41 @@ fn invocation(tag: u8, mut ports: Vec<vir::Port>) -> Invocation {
 /// nothing else.
 fn plain_step(tag: u8, mut ports: Vec<vir::Port>) -> vir::Step {
     use vir::Step;
-    let (e, u, v) = (EnumId(0), UnionId(0), VariantId(0));
     match tag {
+        tag::LINK => of_two(ports, Step::Link),
         tag::CALL => {
             let ret = last(&mut ports);
             Step::Call(Span::NONE, FnRelId, ports, ret)
         }
         tag::CONST => Step::Const(Span::NONE, ConstRelId, last(&mut ports)),
+        tag::COMPOSITE => Step::Composite(ports.remove(0), ports),
+        tag::REWRAP => of_two(ports, Step::Rewrap),
+        tag::ENUM => of_two(ports, |a, b| Step::Enum(EnumId(0), VariantId(0), a, b)),
+        tag::UNION => of_two(ports, |a, b| Step::Union(UnionId(0), VariantId(0), a, b)),
+        tag::REF => of_three(ports, Step::Ref),
+        tag::LIST => Step::List(ports.remove(0), ports),
+        tag::STRING => {
+            let first = ports.remove(0);
+            Step::String(first, String::new(), ports.into_iter().map(|port| (port, String::new())).collect())
+        }
         tag::INLINE_IVY => {
             let root = last(&mut ports);
             Step::InlineIvy(root, Table, FlatNet, ports.into_iter().map(|port| (Wire, port)).collect())
         }
-        tag::COMPOSITE | tag::LIST | tag::STRING => {
-            let rest = ports.split_off(1);
-            let first = last(&mut ports);
-            match tag {
-                tag::COMPOSITE => Step::Composite(first, rest),
-                tag::LIST => Step::List(first, rest),
-                _ => {
-                    let rest = rest.into_iter().map(|port| (port, String::new()));
-                    Step::String(first, String::new(), rest.collect())
-                }
-            }
-        }
-        tag::REF | tag::BOOL_AND => {
-            let [a, b, c] = exactly(ports);
-            if tag == tag::REF { Step::Ref(a, b, c) } else { Step::BoolAnd(a, b, c) }
-        }
-        _ => {
-            let [a, b] = exactly(ports);
-            match tag {
-                tag::LINK => Step::Link(a, b),
-                tag::REWRAP => Step::Rewrap(a, b),
-                tag::ENUM => Step::Enum(e, v, a, b),
-                tag::UNION => Step::Union(u, v, a, b),
-                tag::BOOL_NOT => Step::BoolNot(a, b),
-                _ => unreachable!("a checked tag"),
-            }
-        }
+        tag::BOOL_NOT => of_two(ports, Step::BoolNot),
+        tag::BOOL_AND => of_three(ports, Step::BoolAnd),
+        _ => unreachable!("a checked tag"),
     }
+}
+
+fn of_two<T>(ports: Vec<vir::Port>, make: impl Fn(vir::Port, vir::Port) -> T) -> T {
+    let [a, b] = exactly(ports);
+    make(a, b)
+}
+
+fn of_three<T>(ports: Vec<vir::Port>, make: impl Fn(vir::Port, vir::Port, vir::Port) -> T) -> T {
+    let [a, b, c] = exactly(ports);
+    make(a, b, c)
 }
 
 /// The image of a `Vir` that came, normalised or not, from the image that the notes were taken of.
@@ -481,8 +479,11 @@ pub struct Analysis {
     pub relations: Vec<[usize; 4]>,
     /// The interior and the exterior variable of each interface.
     pub transfers: Vec<(usize, usize)>,
-    /// The variable of each segment.
+    /// The variable of each segment: outside interface 0, inside each Inspect, then those of the stages.
     pub segments: Vec<usize>,
+    /// For each stage the variable of each piece between its Transfers, PASS where nothing is invoked;
+    /// none for an unreached stage.
+    pub pieces: Vec<Vec<usize>>,
     /// The stage, its connected and its disconnected variable.
     pub disconnects: Vec<(usize, usize, usize)>,
     pub processed: Vec<Processed>,
@@ -508,8 +509,10 @@ pub fn analyse(image: &Image, span: u32) -> Analysis {
         let diagnostics = p.diags.iter().map(|diag| diagnostic_of(diag, local)).collect();
         Processed { local, inverse: p.inverse, seeds: p.seeds, effects: p.effects, diagnostics }
     });
+    let incoming = incoming(&vir);
     Analysis {
-        incoming: incoming(&vir),
+        pieces: pieces(image, &incoming, &run.segments),
+        incoming,
         wires: wires(&vir),
         variables: run.variables,
         relations: run.relations,
@@ -518,6 +521,21 @@ pub fn analyse(image: &Image, span: u32) -> Analysis {
         disconnects: run.disconnects,
         processed: processed.collect(),
     }
+}
+
+/// `build` makes a stage's segments in the order of its pieces, and none for a piece without invocations.
+fn pieces(image: &Image, incoming: &[u32], segments: &[usize]) -> Vec<Vec<usize>> {
+    let inspects = image.interfaces.iter().filter(|i| i.kind == kind::INSPECT).count();
+    let mut segments = segments[1 + inspects..].iter().copied();
+    let mut variable = |piece: &[Step]| {
+        let invokes = piece.iter().any(|step| step.tag < tag::TRANSFER);
+        if invokes { segments.next().expect("a segment for each such piece") } else { EffectVar::PASS.0 }
+    };
+    let mut of_stage = |stage: &Stage| match incoming[stage.interface as usize] {
+        0 => vec![],
+        _ => stage.steps.split(|step| step.tag == tag::TRANSFER).map(&mut variable).collect(),
+    };
+    image.stages.iter().map(&mut of_stage).collect()
 }
 
 fn incoming(vir: &Vir) -> Vec<u32> {

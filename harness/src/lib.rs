@@ -1,10 +1,13 @@
 //! What the tests and commands of the harness share.
-pub mod image;
-pub mod check;
-#[path = "gen.rs"]
-pub mod generate;
-pub mod report;
 #[cfg(feature = "oracle")]
 pub mod bridge;
+pub mod check;
+pub mod generate;
+pub mod image;
+#[cfg(feature = "oracle")]
+pub mod picture;
+#[cfg(feature = "port")]
+pub mod port;
+pub mod report;
 #[cfg(feature = "oracle")]
 pub mod worklist;

@@ -16,9 +16,11 @@ macro_rules! live {
 #[cfg(feature = "oracle")]
 mod small {
     pub use harness::{
-        bridge::{self, Normalised},
+        bridge::{self, Effect, Normalised},
+        check::{FLAT, LAYERED, check},
         image::*,
         report::{Diagnostic, Report, Triple, diagnostic::*},
+        worklist::solve,
     };
 
     pub const NIL: Port = Port { ty: 0, kind: port::NIL, a: 0, b: 0 };
@@ -74,15 +76,25 @@ mod small {
     }
 
     pub fn wire_at_1(image: &Image) -> Option<Triple> {
-        bridge::report(image, 0).wires[1][0]
+        reported(image, 0).wires[1][0]
     }
 
     pub fn kinds_and_spans(image: &Image) -> Vec<(u8, u32)> {
-        bridge::report(image, 0).diagnostics.iter().map(|d| (d.kind, d.span)).collect()
+        reported(image, 0).diagnostics.iter().map(|d| (d.kind, d.span)).collect()
+    }
+
+    pub fn reported(image: &Image, span: u32) -> Report {
+        assert_eq!(check(&image.encode()).kind, FLAT, "an accepted flat image");
+        bridge::report(image, span)
+    }
+
+    pub fn answer(image: &Image) -> Normalised {
+        assert_eq!(check(&image.encode()).kind, LAYERED, "an accepted layered image");
+        bridge::normalise(image)
     }
 
     pub fn normalised(image: &Image) -> Image {
-        match bridge::normalise(image) {
+        match answer(image) {
             Normalised::Flat(image) => image,
             Normalised::Excess => panic!("the result is over a maximum"),
         }
@@ -105,9 +117,9 @@ mod small {
         let mut ports = |count: usize| -> Vec<Port> {
             let port = |_| {
                 next += 1;
-                let (kind, inverse) = ((next % 8) as u8, if next % 3 == 0 { INVERSE } else { 0 });
+                let (kind, inverse) = ((next % 8) as u8, if next.is_multiple_of(3) { INVERSE } else { 0 });
                 let b = if kind == port::WIRE { next as u16 } else { 0 };
-                Port { ty: next as u16 % 4 | inverse, kind, a: 1000 + next, b }
+                Port { ty: (next as u16 % 4) | inverse, kind, a: 1000 + next, b }
             };
             (0..count).map(port).collect()
         };
@@ -172,7 +184,7 @@ mod small {
 use small::*;
 
 live!(effects, {
-    use vine::components::analyzer::{effect::Effect::*, probe::EFFECTS};
+    use bridge::{EFFECTS, Effect::*};
     assert_eq!(Barrier.union(BarrierWrite), Barrier);
     assert_eq!(Barrier.join(BarrierWrite), BarrierWrite);
     assert_eq!(BarrierWrite.join(Barrier), Barrier);
@@ -185,22 +197,33 @@ live!(effects, {
     assert!(EFFECTS.iter().zip(0..).all(|(&effect, n)| effect as u8 == n));
 });
 
+live!(invocations, {
+    let effects = |inverse, fork| [0, 1, 2, 3, 4, 5].map(|tag| bridge::invocation_effect(tag, inverse, fork));
+    use Effect::{
+        Barrier as B, BarrierWrite as BW, ReadBarrier as RB, ReadBarrierWrite as RBW, ReadPass as RP,
+    };
+    assert_eq!(effects(false, true), [B, RP, BW, RB, BW, RBW]);
+    assert_eq!(effects(false, false), [B, RB, BW, RB, BW, RBW]);
+    assert_eq!(effects(true, true), [B, BW, RP, BW, RB, RBW]);
+    assert_eq!(effects(true, false), [B, BW, RB, BW, RB, RBW]);
+});
+
 live!(a_read_behind_a_barrier, {
     let image = example(vec![invoke(tag::BARRIER, 4), invoke(tag::READ, 9)]);
     let analysis = bridge::analyse(&image, 0);
     assert_eq!((analysis.variables, analysis.relations.len()), (8, 5));
-    let report = bridge::report(&image, 0);
+    let report = reported(&image, 0);
     assert_eq!(report.encode(), EXAMPLE);
     assert_eq!(Report::decode(&EXAMPLE), Some(report));
 });
 
 live!(a_read_without_a_barrier, {
-    let report = bridge::report(&example(vec![invoke(tag::READ, 9)]), 0);
+    let report = reported(&example(vec![invoke(tag::READ, 9)]), 0);
     assert_eq!((report.verdict, report.total, report.diagnostics), (0, 0, vec![]));
 });
 
 live!(an_infinite_loop, {
-    let report = bridge::report(&flat(FORK | DROP, vec![vec![transfer(1)], vec![transfer(1)]]), 1234);
+    let report = reported(&flat(FORK | DROP, vec![vec![transfer(1)], vec![transfer(1)]]), 1234);
     assert_eq!(report.incoming, [1, 2]);
     assert_eq!(report.diagnostics, [Diagnostic { kind: INFINITE_LOOP, span: 1234, ty: NONE, local: 0 }]);
 });
@@ -209,7 +232,7 @@ live!(an_infinite_loop_is_reported_once, {
     let mut image = flat(FORK | DROP, vec![vec![transfer(1)], vec![transfer(1)]]);
     image.locals = vec![image.locals[0]; 3];
     image.stages[0].declarations = vec![2, 1];
-    let report = bridge::report(&image, 5);
+    let report = reported(&image, 5);
     assert_eq!(report.diagnostics, [Diagnostic { kind: INFINITE_LOOP, span: 5, ty: NONE, local: 1 }]);
 });
 
@@ -236,7 +259,7 @@ live!(a_split_at_the_maximum_of_stages, {
         stages: (0..count).map(|n| stage(0, 0, if n == 7 { vec![diverge(0, 0)] } else { vec![] })).collect(),
         ..Image::default()
     };
-    assert_eq!(bridge::normalise(&image(256)), Normalised::Excess);
+    assert_eq!(answer(&image(256)), Normalised::Excess);
     assert_eq!(normalised(&image(255)).stages.len(), 256);
 });
 
@@ -250,7 +273,7 @@ live!(millions_of_new_locals_are_refused_at_once, {
     };
     image.stages[0].header = header::ENTRY;
     image.stages[0].ports = (0..2560).map(|n| wire(0, 0, n)).collect();
-    assert_eq!(bridge::normalise(&image), Normalised::Excess);
+    assert_eq!(answer(&image), Normalised::Excess);
 });
 
 live!(open_wires_become_locals, {
@@ -260,7 +283,6 @@ live!(open_wires_become_locals, {
         stages: vec![stage(0, 0, vec![link(6), diverge(0, 0), link(7)])],
         locals: vec![Local { span: 8, ty: 1, flags: FORK }],
         types: vec![Type { upright: INV, inverted: DROP }, Type { upright: FORK, inverted: SELF_INVERSE }],
-        ..Image::default()
     };
     let source = &mut image.stages[0];
     (source.span, source.wires, source.header, source.key) = (31, 40, header::ENTRY, 70);
@@ -330,9 +352,29 @@ live!(a_transfer_that_does_not_split, {
     assert_eq!([&flat.stages[0].steps, &flat.stages[1].steps], [&[transfer(1)], &[transfer(1)]]);
 });
 
+live!(the_worklist_keeps_repeats, {
+    // Taking 1 hands the relation out twice, taking 0 once more.
+    let solution = solve(&[[1, 1, 0, 2]], &[Effect::Pass, Effect::BarrierWrite, Effect::Never], false);
+    assert_eq!((solution.taken, solution.evaluations), (vec![1, 1, 1], 3));
+});
+
+live!(the_worklist_takes_a_variable_again_that_rose_while_it_waited, {
+    // Taking 2 raises 3 to RP and then, before 3 is taken, to RPBW.
+    let seeds = [Effect::Pass, Effect::BarrierWrite, Effect::ReadPass, Effect::Never];
+    let solution = solve(&[[2, 0, 0, 3], [2, 1, 0, 3]], &seeds, false);
+    assert_eq!((solution.taken, solution.evaluations), (vec![1, 1, 1, 2], 6));
+});
+
+live!(the_worklist_takes_the_highest_seed_first, {
+    // 2 is taken before 1 raises it, so that it and 3 are taken twice; the other way round 3 is taken once.
+    let seeds = [Effect::Pass, Effect::ReadPass, Effect::BarrierWrite, Effect::Never];
+    let solution = solve(&[[1, 0, 0, 2], [2, 0, 0, 3]], &seeds, false);
+    assert_eq!((solution.taken, solution.evaluations), (vec![1, 1, 2, 2], 7));
+});
+
 live!(image_to_vir_and_back, {
-    for image in [everything(0), everything(NONE)] {
-        assert!(!image.excessive());
+    for (image, kind) in [(everything(0), LAYERED), (everything(NONE), FLAT)] {
+        assert_eq!(check(&image.encode()).kind, kind);
         assert_eq!(Image::decode(&image.encode()), image);
         let (vir, notes) = bridge::to_vir(&image);
         assert_eq!(bridge::from_vir(&vir, &notes), image);
@@ -403,7 +445,7 @@ live!(an_inverse_local_swaps_the_ends_of_the_triple, {
 live!(an_inverse_local_is_the_mirror_of_an_upright_one, {
     let mut image = example(vec![invoke(tag::WRITE, 9), invoke(tag::BARRIER, 4)]);
     image.locals[0].flags |= INV;
-    assert_eq!(bridge::report(&image, 0).encode(), EXAMPLE);
+    assert_eq!(reported(&image, 0).encode(), EXAMPLE);
 });
 
 live!(a_diagnostic_names_the_local_and_its_type, {
@@ -413,11 +455,119 @@ live!(a_diagnostic_names_the_local_and_its_type, {
     image.stages[0].declarations = vec![1];
     image.stages[0].steps.iter_mut().for_each(|step| step.b = 1);
     let expected = Diagnostic { kind: UNINITIALIZED_VARIABLE, span: 9, ty: 555 | INVERSE, local: 1 };
-    assert_eq!(bridge::report(&image, 0).diagnostics, [expected]);
+    assert_eq!(reported(&image, 0).diagnostics, [expected]);
+});
+
+live!(the_first_1024_diagnostics_are_kept, {
+    let writes = (0..1500).map(|span| invoke(tag::WRITE, span)).collect();
+    let report = reported(&flat(FORK, vec![writes]), 0);
+    assert_eq!((report.verdict, report.total, report.diagnostics.len()), (1, 1500, 1024));
+    // The walk is backward.
+    assert_eq!(report.diagnostics[0], Diagnostic { kind: CANNOT_DROP, span: 1499, ty: 0, local: 0 });
+});
+
+live!(only_upright_or_inverse_locals_of_reached_stages_are_processed, {
+    let processed = |image: &Image| bridge::analyse(image, 0).processed.len();
+    let steps = || vec![invoke(tag::BARRIER, 4), invoke(tag::READ, 9)];
+    assert_eq!(processed(&flat(0, vec![steps()])), 1);
+    assert_eq!(processed(&flat(INV, vec![steps()])), 1);
+    assert_eq!(processed(&flat(SELF_INVERSE, vec![steps()])), 0);
+    let mut unreached = flat(0, vec![vec![], steps()]);
+    unreached.stages[0].declarations.clear();
+    unreached.stages[1].declarations = vec![0];
+    assert_eq!(processed(&unreached), 0);
+    unreached.stages[0].steps = vec![transfer(1)];
+    assert_eq!(processed(&unreached), 1);
 });
 
 live!(a_stage_listed_twice_is_swept_twice, {
     let mut image = flat(FORK | DROP, vec![vec![transfer(1)], vec![]]);
     image.interfaces[0] = Interface { layer: NONE, kind: kind::MATCH, key: 0, list: vec![0, 0, 0] };
-    assert_eq!(bridge::report(&image, 0).incoming, [1, 3]);
+    assert_eq!(reported(&image, 0).incoming, [1, 3]);
+});
+
+/// Accepted images from the generator.
+#[cfg(feature = "oracle")]
+mod generated {
+    use harness::generate::{self, Family};
+
+    use crate::small::*;
+
+    /// Where an assertion fails, this tells the image apart.
+    pub type Name = (Family, u64);
+
+    pub fn flat() -> impl Iterator<Item = (Name, Image)> {
+        of(Family::FlatSmall, 3000).chain(of(Family::FlatLarge, 20))
+    }
+
+    pub fn layered() -> impl Iterator<Item = (Name, Image)> {
+        of(Family::LayeredSmall, 3000).chain(of(Family::LayeredLarge, 20)).chain(of(Family::Excess, 60))
+    }
+
+    fn of(family: Family, count: u64) -> impl Iterator<Item = (Name, Image)> {
+        (0..count).map(move |seed| ((family, seed), Image::decode(&generate::image(family, seed))))
+    }
+
+    /// Flat images, and layered ones normalised.
+    pub fn analysable() -> impl Iterator<Item = (Name, Image)> {
+        let normalised = layered().filter_map(|(name, image)| match answer(&image) {
+            Normalised::Flat(image) => Some((name, image)),
+            Normalised::Excess => None,
+        });
+        flat().chain(normalised)
+    }
+}
+
+live!(generated_images_go_to_vir_and_back, {
+    for (name, image) in generated::flat().chain(generated::layered()) {
+        let (vir, notes) = bridge::to_vir(&image);
+        assert_eq!(bridge::from_vir(&vir, &notes), image, "{name:?}");
+    }
+});
+
+live!(a_normalised_image_is_accepted_as_flat, {
+    let mut excess = 0;
+    for (name, image) in generated::layered() {
+        match answer(&image) {
+            Normalised::Flat(flat) => assert_eq!(check(&flat.encode()).kind, FLAT, "{name:?}"),
+            Normalised::Excess => excess += 1,
+        }
+    }
+    assert_ne!(excess, 0, "no image is over a maximum");
+});
+
+live!(the_probed_run_is_as_analyze, {
+    for (name, image) in generated::analysable() {
+        assert!(bridge::is_as_analyze(&bridge::analyse(&image, 3), &image, 3), "{name:?}");
+    }
+});
+
+live!(every_segment_is_a_piece_of_a_stage, {
+    for (name, image) in generated::analysable() {
+        let analysis = bridge::analyse(&image, 0);
+        let inspects = image.interfaces.iter().filter(|i| i.kind == kind::INSPECT).count();
+        let pieces: Vec<_> = analysis.pieces.concat().into_iter().filter(|&variable| variable != 0).collect();
+        assert_eq!(pieces, analysis.segments[1 + inspects..], "{name:?}");
+    }
+});
+
+live!(the_worklist_ends_in_the_effects_of_the_rust, {
+    for (name, image) in generated::analysable() {
+        let analysis = bridge::analyse(&image, 0);
+        for local in &analysis.processed {
+            let solution = solve(&analysis.relations, &local.seeds, local.inverse);
+            assert_eq!(solution.effects, local.effects, "{name:?}");
+            assert!(solution.taken.iter().all(|&n| n <= 4), "{name:?}");
+        }
+    }
+});
+
+live!(every_kind_of_diagnostic_comes_up, {
+    let mut seen = [0; 6];
+    for (name, image) in generated::analysable() {
+        let report = reported(&image, 0);
+        assert_eq!(Report::decode(&report.encode()).as_ref(), Some(&report), "{name:?}");
+        report.diagnostics.iter().for_each(|d| seen[d.kind as usize] += 1);
+    }
+    assert!(seen[1..].iter().all(|&n| n > 0), "{seen:?}");
 });

@@ -19,11 +19,11 @@ pub use-implies : (a b : Bool) → T (implies a b) → T a → T b
 use-implies true b t h = t
 use-implies false b t h = absurd h
 
-both-left : (a b : Bool) → T (a && b) → T a
+pub both-left : (a b : Bool) → T (a && b) → T a
 both-left true b t = tt
 both-left false b t = t
 
-both-right : (a b : Bool) → T (a && b) → T b
+pub both-right : (a b : Bool) → T (a && b) → T b
 both-right true b t = t
 both-right false b t = absurd t
 

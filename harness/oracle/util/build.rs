@@ -22,13 +22,16 @@ fn main() {
         }
     }
     println!("cargo::metadata=sources={}", sources.display());
-    fs::copy(sources.join(FILES[0]), variable("OUT_DIR").join("idx.rs")).expect("idx.rs can be copied");
+    // Not `fs::copy`: the sources may be read-only, and a copy must be writable the next time.
+    let idx = fs::read(sources.join(FILES[0])).expect("idx.rs can be read");
+    fs::write(variable("OUT_DIR").join("idx.rs"), idx).expect("OUT_DIR can be written");
 }
 
 /// Where VINE_SRC points, else beside the repository; a relative path is seen from the repository's root.
 fn sources() -> PathBuf {
     let root = variable("CARGO_MANIFEST_DIR").join("../../..");
-    root.join(env::var_os("VINE_SRC").unwrap_or_else(|| "../shared/docs/src".into()))
+    let named = env::var_os("VINE_SRC").filter(|path| !path.is_empty());
+    root.join(named.unwrap_or_else(|| "../shared/docs/src".into()))
 }
 
 fn variable(name: &str) -> PathBuf {
@@ -36,6 +39,9 @@ fn variable(name: &str) -> PathBuf {
 }
 
 fn missing(file: &Path) -> ! {
-    println!("cargo::error=Vine's sources are not at hand: no {}; VINE_SRC names their folder", file.display());
+    println!(
+        "cargo::error=Vine's sources are not at hand: no {}; VINE_SRC names their folder",
+        file.display()
+    );
     process::exit(1)
 }

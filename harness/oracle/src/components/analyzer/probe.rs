@@ -64,7 +64,8 @@ pub fn run(span: Span, vir: &mut Vir) -> Run {
     analyzer.segments.push(root_segment);
     analyzer.build();
     let declarations = BTreeMap::from_iter(take(&mut analyzer.local_declarations));
-    let processed = declarations.into_iter().filter_map(|(l, stages)| process_local(&mut analyzer, l, stages));
+    let processed =
+        declarations.into_iter().filter_map(|(l, stages)| process_local(&mut analyzer, l, stages));
     Run {
         processed: processed.collect(),
         variables: analyzer.effects.len(),

@@ -1,0 +1,7 @@
+pub mod Arity
+pub mod Header
+pub mod Ids
+pub mod Interface
+pub mod Invocation
+pub mod Port
+pub mod Step
