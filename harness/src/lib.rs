@@ -2,6 +2,8 @@
 #[cfg(feature = "oracle")]
 pub mod bridge;
 pub mod check;
+#[cfg(feature = "oracle")]
+pub mod families;
 pub mod generate;
 pub mod image;
 #[cfg(feature = "oracle")]

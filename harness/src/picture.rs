@@ -1,4 +1,4 @@
-//! The picture of the relations: the Graphviz text of docs/PICTURE.md, from the Rust's own relations and final effects.
+//! The picture of the relations: docs/PICTURE.md's text, from the Rust's own relations and final effects.
 
 use std::fmt::{self, Display, Formatter};
 
@@ -40,7 +40,7 @@ impl Role {
 
     fn shape(&self) -> &'static str {
         match self {
-            Role::Pass => "circle",
+            Role::Pass => "ellipse",
             Role::Interior(_) | Role::InnerInterior(_) => "house",
             Role::Exterior(_) | Role::InnerExterior(_) => "invhouse",
             Role::Connected(_) | Role::Disconnected(_) => "diamond",

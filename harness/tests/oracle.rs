@@ -1,16 +1,7 @@
 //! Vine's own files asked directly: document 01's examples and slips, and what the bridge promises.
 
-/// A test that needs the Rust; without it, it counts as ignored.
-macro_rules! live {
-    ($name:ident, $body:block) => {
-        #[test]
-        #[cfg_attr(not(feature = "oracle"), ignore = "Vine's sources are not at hand")]
-        fn $name() {
-            #[cfg(feature = "oracle")]
-            $body
-        }
-    };
-}
+#[macro_use]
+mod common;
 
 /// Small images by hand.
 #[cfg(feature = "oracle")]

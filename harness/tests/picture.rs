@@ -89,7 +89,7 @@ mod common {
         bytes.filter_map(|bytes| flat(&bytes))
     }
 
-    /// The words of a line between what never changes, which must be letters and digits. In the form, `*` is a word.
+    /// The words of a line where its form has `*`; a word is of letters and digits.
     pub fn words<'a>(line: &'a str, form: &str) -> Vec<&'a str> {
         let (mut rest, mut words) = (line, vec![]);
         let mut fixed = form.split('*');
@@ -136,8 +136,8 @@ mod common {
         };
         let forward = |i: usize| if i == 0 { "pass".to_string() } else { own(&format!("forward{i}")) };
         let backward = |i: usize| if i == last { piece(i) } else { own(&format!("backward{i}")) };
-        for i in 0..last {
-            relate([&forward(i), &transfers[i].0, &piece(i), &forward(i + 1)]);
+        for (i, transfer) in transfers[..last].iter().enumerate() {
+            relate([&forward(i), &transfer.0, &piece(i), &forward(i + 1)]);
         }
         for i in (0..last).rev() {
             relate([&piece(i), &transfers[i + 1].0, &backward(i + 1), &backward(i)]);

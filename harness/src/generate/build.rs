@@ -5,16 +5,16 @@ use crate::image::{INVERSE, Image, Interface, Layer, Local, MAXIMA, NONE, SELF_I
 
 /// What is left of each list section.
 pub(super) struct Budget {
-    pub(super) steps: usize,
-    pub(super) ports: usize,
-    pub(super) refs: usize,
+    pub steps: usize,
+    pub ports: usize,
+    pub refs: usize,
 }
 
 pub(super) struct Builder<'a> {
-    pub(super) rng: &'a mut Rng,
-    pub(super) mood: Mood,
-    pub(super) left: Budget,
-    pub(super) image: Image,
+    pub rng: &'a mut Rng,
+    pub mood: Mood,
+    pub left: Budget,
+    pub image: Image,
 }
 
 pub(super) fn build(rng: &mut Rng, mood: Mood) -> Image {

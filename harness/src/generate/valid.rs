@@ -11,31 +11,31 @@ pub enum Size {
 
 /// What one image leans to; drawn once an image, so that images differ more than their parts do.
 pub(super) struct Mood {
-    pub(super) layers: usize,
-    pub(super) interfaces: usize,
-    pub(super) stages: usize,
-    pub(super) locals: usize,
-    pub(super) types: usize,
+    pub layers: usize,
+    pub interfaces: usize,
+    pub stages: usize,
+    pub locals: usize,
+    pub types: usize,
     /// At most so many steps a stage.
-    pub(super) steps: usize,
+    pub steps: usize,
     /// Percent of layers without parent.
-    pub(super) roots: usize,
+    pub roots: usize,
     /// Percent of Transfer steps that go back or to the own interface.
-    pub(super) back: usize,
+    pub back: usize,
     /// Percent of interfaces that are Inspect.
-    pub(super) inspect: usize,
+    pub inspect: usize,
     /// Percent of stages that declare.
-    pub(super) declare: usize,
+    pub declare: usize,
     /// Percent of mentions of a local that are of the first three.
-    pub(super) focus: usize,
+    pub focus: usize,
     /// Percent of wires left open at first use.
-    pub(super) open: usize,
+    pub open: usize,
     /// Percent of interfaces whose layer is not their stages'.
-    pub(super) tangle: usize,
+    pub tangle: usize,
     /// Percent of interfaces that an earlier one is made to reach.
-    pub(super) connect: usize,
+    pub connect: usize,
     /// Percent of locals that are self-inverse.
-    pub(super) self_inverse: usize,
+    pub self_inverse: usize,
 }
 
 impl Mood {
