@@ -1,0 +1,5 @@
+pub mod Bytes
+pub mod Every
+pub mod Faults
+pub mod Layout
+pub mod Records
