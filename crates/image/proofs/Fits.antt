@@ -3,6 +3,7 @@ use mathlib.Core.Path.{_≡_, _∙_, refl, sym, ap, subst}
 use mathlib.Core.Bool.{Bool, true, false, cond, _&&_, _||_}
 use mathlib.Core.List.{List}
 use Prim.Native.Nat.{ℕ, _+_, _*_, _≤_, _<_}
+use native.Mathlib.Omega.{arith}
 use lib.Dec.{eqb, ltb, leb}
 use borrow.Author.Tests.{leb-true, eqb-true, eq-eqb, ne-eqb, le-leb, lt-leb}
 use Rattle.vir.specs.Interface.{kindOf}
@@ -23,6 +24,10 @@ laid-first running total run h = eqb-true (run .first) running (left-true _ (leb
 
 pub laid-fits : (running total : ℕ) (run : Run) → laid running total run ≡ true → run .first + run .count ≤ total
 laid-fits running total run h = leb-true (run .first + run .count) total (right-true (eqb (run .first) running) _ h)
+
+-- where the list starts, the running place ends
+pub laid-next : (running total : ℕ) (run : Run) → laid running total run ≡ true → running + run .count ≤ total
+laid-next running total run h = omega (arith, laid-first running total run h, laid-fits running total run h)
 
 pub layer-fits : (c : Counts) (r : Running) (l : Layer) → layerFields c r l ≡ true → l .stages .first + l .stages .count ≤ c .refs
 layer-fits c r l h = laid-fits (r .refs) (c .refs) (l .stages) (right-true (orNone (c .layers) (l .parent .0)) _ h)

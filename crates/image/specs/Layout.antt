@@ -1,9 +1,13 @@
 -- Document 01, "The image": the counts, their maxima, the records' sizes, and where each section starts.
 use mathlib.Core.Bool.{Bool, not, _&&_}
-use mathlib.Core.List.{List}
+use mathlib.Core.List.{List, [], _∷_}
 use Prim.Native.Nat.{ℕ, _+_, _*_, _≤_}
+use mathlib.Core.Path.{_≡_}
 use lib.Dec.{eqb, leb}
+use lib.ListN.{length}
 use Rattle.image.specs.declared.layout.Counts.{Counts}
+use Rattle.image.specs.declared.layout.Section.{Section}
+use Rattle.image.specs.declared.layout.Section.the-variants.{Layers, Interfaces, Stages, Locals, Types, Steps, Ports}
 use Rattle.image.specs.Bytes.{u16At}
 
 -- eight u16 counts, after the mark and the version
@@ -60,3 +64,46 @@ within c =
     && leb (c .steps) 2048
     && leb (c .ports) 2560
     && leb (c .refs) 2048
+
+-- bytes of the length that the counts give, which are within their maxima
+pub record Sized (s : List ℕ) (c : Counts) : Type 0 where
+  pub long : length s ≡ lengthOf c
+  pub layers : c .layers ≤ 64
+  pub interfaces : c .interfaces ≤ 256
+  pub stages : c .stages ≤ 256
+  pub locals : c .locals ≤ 256
+  pub types : c .types ≤ 1024
+  pub steps : c .steps ≤ 2048
+  pub ports : c .ports ≤ 2560
+  pub refs : c .refs ≤ 2048
+
+-- the sections of records, in the order of the file
+abbrev pub sections : List Section
+sections = Layers ∷ Interfaces ∷ Stages ∷ Locals ∷ Types ∷ Steps ∷ Ports ∷ []
+
+abbrev pub sizeOf : Section → ℕ
+sizeOf Layers = 6
+sizeOf Interfaces = 9
+sizeOf Stages = 30
+sizeOf Locals = 7
+sizeOf Types = 2
+sizeOf Steps = 11
+sizeOf Ports = 9
+
+abbrev pub countOf : Counts → Section → ℕ
+countOf c Layers = c .layers
+countOf c Interfaces = c .interfaces
+countOf c Stages = c .stages
+countOf c Locals = c .locals
+countOf c Types = c .types
+countOf c Steps = c .steps
+countOf c Ports = c .ports
+
+abbrev pub startOf : Counts → Section → ℕ
+startOf c Layers = layersAt c
+startOf c Interfaces = interfacesAt c
+startOf c Stages = stagesAt c
+startOf c Locals = localsAt c
+startOf c Types = typesAt c
+startOf c Steps = stepsAt c
+startOf c Ports = portsAt c

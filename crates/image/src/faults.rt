@@ -70,20 +70,20 @@ fn refs_below(s: &[u8], at: usize, count: u16, n: u16) -> bool
     true
 }
 
-fn local_good(c: Counts, l: VirLocal) -> bool
+pub fn local_good(c: Counts, l: VirLocal) -> bool
     ensures { λ r. ⌜ r ≡ localGood c l ⌝ }
 {
     let ty = l.ty;
     type_named(c, ty) & flags_good(l.flags)
 }
 
-fn type_good(t: TypeFlags) -> bool
+pub fn type_good(t: TypeFlags) -> bool
     ensures { λ r. ⌜ r ≡ typeGood t ⌝ }
 {
     flags_good(t.upright) & flags_good(t.inverted)
 }
 
-fn port_good(c: Counts, p: Port) -> bool
+pub fn port_good(c: Counts, p: Port) -> bool
     ensures { λ r. ⌜ r ≡ portGood c p ⌝ }
 {
     let ty = p.ty;
@@ -124,7 +124,7 @@ fn layer_fields(c: Counts, r: Running, l: Layer) -> bool
     or_none(c.layers, l.parent.0) & laid(r.refs, c.refs, run)
 }
 
-fn layer_good(s: &[u8], c: Counts, at: usize, r: Running, l: Layer) -> bool
+pub fn layer_good(s: &[u8], c: Counts, at: usize, r: Running, l: Layer) -> bool
     requires { ⌜ at ≡ refsAt c ⌝ }
     requires { ⌜ length (now s) ≡ lengthOf c ⌝ }
     ensures { λ b. ⌜ b ≡ layerGood (now (s .entry)) c r l ⌝ }
@@ -169,7 +169,7 @@ fn interface_fields(c: Counts, r: Running, i: Interface) -> bool
     kind_lists(i.kind, i.list.count) & ((i.kind == 2) | (i.key == 0)) & laid(r.refs, c.refs, list)
 }
 
-fn interface_good(s: &[u8], c: Counts, at: usize, r: Running, i: Interface) -> bool
+pub fn interface_good(s: &[u8], c: Counts, at: usize, r: Running, i: Interface) -> bool
     requires { ⌜ at ≡ refsAt c ⌝ }
     requires { ⌜ length (now s) ≡ lengthOf c ⌝ }
     ensures { λ b. ⌜ b ≡ interfaceGood (now (s .entry)) c r i ⌝ }
@@ -221,7 +221,7 @@ fn stage_fields(c: Counts, r: Running, t: Stage) -> bool
     stage_named(c, t) & stage_lists(c, r, t)
 }
 
-fn stage_good(s: &[u8], c: Counts, at: usize, r: Running, t: Stage) -> bool
+pub fn stage_good(s: &[u8], c: Counts, at: usize, r: Running, t: Stage) -> bool
     requires { ⌜ at ≡ refsAt c ⌝ }
     requires { ⌜ length (now s) ≡ lengthOf c ⌝ }
     ensures { λ b. ⌜ b ≡ stageGood (now (s .entry)) c r t ⌝ }
@@ -252,7 +252,7 @@ fn step_named(c: Counts, t: StepRecord) -> bool
     t.b == 0
 }
 
-fn step_good(c: Counts, r: Running, t: StepRecord) -> bool
+pub fn step_good(c: Counts, r: Running, t: StepRecord) -> bool
     ensures { λ b. ⌜ b ≡ stepGood c r t ⌝ }
 {
     let ports = t.ports;

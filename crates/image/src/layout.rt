@@ -1,8 +1,8 @@
 // Where everything lies: the eight counts, their maxima, and each section's start. The sizes of records stand here and nowhere else.
 ghost use mathlib.Core.Path.{_≡_};
 ghost use Prim.Native.Nat.{_≤_};
-ghost use lib.ListN.{length};
-ghost use Rattle.image.specs.Layout.{countsOf, interfacesAt, stagesAt, localsAt, typesAt, stepsAt, portsAt, refsAt, lengthOf, within};
+ghost use lib.ListN.{length, getD};
+ghost use Rattle.image.specs.Layout.{countsOf, interfacesAt, stagesAt, localsAt, typesAt, stepsAt, portsAt, refsAt, lengthOf, within, sections, sizeOf, countOf, startOf};
 use crate::bytes::u16_at;
 
 pub struct Counts {
@@ -14,6 +14,17 @@ pub struct Counts {
     pub steps: u16,
     pub ports: u16,
     pub refs: u16,
+}
+
+// The sections whose entries are judged one by one, in the order of the file. Refs follow.
+pub enum Section {
+    Layers,
+    Interfaces,
+    Stages,
+    Locals,
+    Types,
+    Steps,
+    Ports,
 }
 
 impl Counts {
@@ -94,5 +105,64 @@ impl Counts {
         ensures { λ r. ⌜ r ≡ lengthOf self ⌝ }
     {
         self.refs_at() + 2 * (self.refs as usize)
+    }
+}
+
+impl Section {
+    pub fn size(self) -> usize
+        ensures { λ r. ⌜ r ≡ sizeOf self ⌝ }
+    {
+        match self {
+            Section::Layers => 6,
+            Section::Interfaces => 9,
+            Section::Stages => 30,
+            Section::Locals => 7,
+            Section::Types => 2,
+            Section::Steps => 11,
+            Section::Ports => 9,
+        }
+    }
+
+    pub fn count(self, c: Counts) -> usize
+        ensures { λ r. ⌜ r ≡ countOf c self ⌝ }
+    {
+        match self {
+            Section::Layers => c.layers as usize,
+            Section::Interfaces => c.interfaces as usize,
+            Section::Stages => c.stages as usize,
+            Section::Locals => c.locals as usize,
+            Section::Types => c.types as usize,
+            Section::Steps => c.steps as usize,
+            Section::Ports => c.ports as usize,
+        }
+    }
+
+    pub fn start(self, c: Counts) -> usize
+        ensures { λ r. ⌜ r ≡ startOf c self ⌝ }
+    {
+        match self {
+            Section::Layers => 21,
+            Section::Interfaces => c.interfaces_at(),
+            Section::Stages => c.stages_at(),
+            Section::Locals => c.locals_at(),
+            Section::Types => c.types_at(),
+            Section::Steps => c.steps_at(),
+            Section::Ports => c.ports_at(),
+        }
+    }
+
+    pub fn nth(k: usize) -> Section
+        ensures { λ r. ⌜ r ≡ getD sections k Section.Ports ⌝ }
+    {
+        match k {
+            0 => Section::Layers,
+            1 => Section::Interfaces,
+            2 => Section::Stages,
+            3 => Section::Locals,
+            4 => Section::Types,
+            5 => Section::Steps,
+            6 => Section::Ports,
+            _ => Section::Ports,
+        }
     }
 }

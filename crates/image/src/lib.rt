@@ -1,6 +1,8 @@
 // The image of document 01: its bytes as records, and whether it is one.
 pub mod bytes;
 pub mod faults;
+pub mod judge;
 pub mod layout;
 pub mod records;
 pub mod running;
+pub mod walk;
