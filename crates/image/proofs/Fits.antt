@@ -9,9 +9,9 @@ use borrow.Author.Tests.{leb-true, eqb-true, eq-eqb, ne-eqb, le-leb, lt-leb}
 use Rattle.vir.specs.Interface.{kindOf}
 use Rattle.image.specs.declared.layout.Counts.{Counts}
 use Rattle.image.specs.declared.records.Run.{Run}
-use Rattle.image.specs.declared.records.Layer.{Layer}
-use Rattle.image.specs.declared.records.Interface.{Interface}
-use Rattle.image.specs.declared.records.Stage.{Stage}
+use Rattle.image.specs.declared.records.LayerRecord.{LayerRecord}
+use Rattle.image.specs.declared.records.InterfaceRecord.{InterfaceRecord}
+use Rattle.image.specs.declared.records.StageRecord.{StageRecord}
 use Rattle.image.specs.declared.records.StepRecord.{StepRecord}
 use Rattle.image.specs.declared.running.Running.{Running}
 use Rattle.image.specs.Bytes.{u16At}
@@ -29,16 +29,16 @@ laid-fits running total run h = leb-true (run .first + run .count) total (right-
 pub laid-next : (running total : ℕ) (run : Run) → laid running total run ≡ true → running + run .count ≤ total
 laid-next running total run h = omega (arith, laid-first running total run h, laid-fits running total run h)
 
-pub layer-fits : (c : Counts) (r : Running) (l : Layer) → layerFields c r l ≡ true → l .stages .first + l .stages .count ≤ c .refs
+pub layer-fits : (c : Counts) (r : Running) (l : LayerRecord) → layerFields c r l ≡ true → l .stages .first + l .stages .count ≤ c .refs
 layer-fits c r l h = laid-fits (r .refs) (c .refs) (l .stages) (right-true (orNone (c .layers) (l .parent .0)) _ h)
 
-pub interface-fits : (c : Counts) (r : Running) (i : Interface) → interfaceFields c r i ≡ true → i .list .first + i .list .count ≤ c .refs
+pub interface-fits : (c : Counts) (r : Running) (i : InterfaceRecord) → interfaceFields c r i ≡ true → i .list .first + i .list .count ≤ c .refs
 interface-fits c r i h =
     laid-fits (r .refs) (c .refs) (i .list)
     (right-true (kindLists (kindOf (i .kind)) (i .list .count) && (eqb (i .kind) 2 || eqb (i .key) 0)) _ h)
 
 -- a Closure lists three
-pub closure-three : (c : Counts) (r : Running) (i : Interface) → interfaceFields c r i ≡ true → i .kind ≡ 3 → i .list .count ≡ 3
+pub closure-three : (c : Counts) (r : Running) (i : InterfaceRecord) → interfaceFields c r i ≡ true → i .kind ≡ 3 → i .list .count ≡ 3
 unfolding kindOf
 closure-three c r i h k =
     let lists : kindLists (kindOf (i .kind)) (i .list .count) ≡ true =
@@ -46,7 +46,7 @@ closure-three c r i h k =
     (left-true _ (laid (r .refs) (c .refs) (i .list)) h) in
     eqb-true (i .list .count) 3 (subst (λ (n : ℕ). kindLists (kindOf n) (i .list .count) ≡ true) k lists)
 
-module _ (c : Counts) (r : Running) (t : Stage) (h : stageFields c r t ≡ true) where
+module _ (c : Counts) (r : Running) (t : StageRecord) (h : stageFields c r t ≡ true) where
   lists : stageLists c r t ≡ true
   lists = right-true (stageNamed c t) (stageLists c r t) h
 
@@ -66,7 +66,7 @@ module _ (c : Counts) (r : Running) (t : Stage) (h : stageFields c r t ≡ true)
       leb-true (t .ports .first + t .ports .count + t .payload) (c .ports)
       (right-true (eqb (t .ports .first) (r .ports)) _ (left-true (portsLaid (r .ports) (c .ports) (t .ports) (t .payload)) _ first-two))
 
-module _ (s : List ℕ) (c : Counts) (i : Interface) (p : ℕ) (e : p ≡ listAt c (i .list)) where
+module _ (s : List ℕ) (c : Counts) (i : InterfaceRecord) (p : ℕ) (e : p ≡ listAt c (i .list)) where
   pub entries-inspect : i .kind ≡ 4 → every (i .list .count) (λ k. ltb (u16At s (p + 2 * k)) (c .locals)) ≡ entriesNamed s c i
   entries-inspect h = rw e (simp (eq-eqb _ _ h))
 

@@ -9,9 +9,9 @@ use borrow.Author.Tests.{not-true, not-false, eqb-true}
 use Rattle.vir.specs.Interface.{kindOf}
 use Rattle.vir.specs.Step.{stepOf}
 use Rattle.image.specs.declared.layout.Counts.{Counts}
-use Rattle.image.specs.declared.records.Layer.{Layer}
-use Rattle.image.specs.declared.records.Interface.{Interface}
-use Rattle.image.specs.declared.records.Stage.{Stage}
+use Rattle.image.specs.declared.records.LayerRecord.{LayerRecord}
+use Rattle.image.specs.declared.records.InterfaceRecord.{InterfaceRecord}
+use Rattle.image.specs.declared.records.StageRecord.{StageRecord}
 use Rattle.image.specs.declared.records.StepRecord.{StepRecord}
 use Rattle.image.specs.declared.running.Running.{Running}
 use Rattle.image.specs.declared.running.Judged.{Judged}
@@ -27,13 +27,13 @@ pub judged-next : (g : Bool) (n : Running) (b : Bool) → b ≡ g → not b ≡ 
 judged-next g n b e h = sym (ap (λ (x : Bool). cond x (Next n) Fault) (sym e ∙ not-false b h))
 
 module _ (s : List ℕ) (c : Counts) (r : Running) where
-  pub layer-next : (l : Layer) → layerGood s c r l ≡ true → r .refs + l .stages .count ≤ c .refs
+  pub layer-next : (l : LayerRecord) → layerGood s c r l ≡ true → r .refs + l .stages .count ≤ c .refs
   unfolding layerGood
   layer-next l h =
       laid-next (r .refs) (c .refs) (l .stages)
       (right-true (orNone (c .layers) (l .parent .0)) _ (left-true (layerFields c r l) (refsBelow s c (l .stages) (c .stages)) h))
 
-  pub interface-next : (i : Interface) → interfaceGood s c r i ≡ true → r .refs + i .list .count ≤ c .refs
+  pub interface-next : (i : InterfaceRecord) → interfaceGood s c r i ≡ true → r .refs + i .list .count ≤ c .refs
   unfolding interfaceGood
   interface-next i h =
       laid-next (r .refs) (c .refs) (i .list)
@@ -46,12 +46,12 @@ module _ (s : List ℕ) (c : Counts) (r : Running) where
       (right-true (stepHas (stepOf (t .tag) (t .a) (t .b)) (t .ports .count) && stepNamed c t) _ h)
 
   -- the three places behind a stage
-  pub record Placed (t : Stage) : Type 0 where
+  pub record Placed (t : StageRecord) : Type 0 where
     pub refs : r .refs + t .declarations .count ≤ c .refs
     pub steps : r .steps + t .steps .count ≤ c .steps
     pub ports : r .ports + t .ports .count + t .payload ≤ c .ports
 
-  pub stage-next : (t : Stage) → stageGood s c r t ≡ true → Placed t
+  pub stage-next : (t : StageRecord) → stageGood s c r t ≡ true → Placed t
   unfolding stageGood
   stage-next t h =
       let fields : stageFields c r t ≡ true = left-true (stageFields c r t) (refsBelow s c (t .declarations) (c .locals)) h in

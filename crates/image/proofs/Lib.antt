@@ -1,3 +1,4 @@
+pub mod Computed
 pub mod Every
 pub mod Fits
 pub mod Guards

@@ -16,13 +16,13 @@ use Rattle.vir.specs.Interface.{kindOf, entriesOf}
 use Rattle.vir.specs.Step.{stepOf, stepPorts}
 use Rattle.image.specs.declared.layout.Counts.{Counts}
 use Rattle.image.specs.declared.records.Run.{Run}
-use Rattle.image.specs.declared.records.Layer.{Layer}
-use Rattle.image.specs.declared.records.Interface.{Interface}
-use Rattle.image.specs.declared.records.Stage.{Stage}
-use Rattle.image.specs.declared.records.VirLocal.{VirLocal}
-use Rattle.image.specs.declared.records.TypeFlags.{TypeFlags}
+use Rattle.image.specs.declared.records.LayerRecord.{LayerRecord}
+use Rattle.image.specs.declared.records.InterfaceRecord.{InterfaceRecord}
+use Rattle.image.specs.declared.records.StageRecord.{StageRecord}
+use Rattle.image.specs.declared.records.LocalRecord.{LocalRecord}
+use Rattle.image.specs.declared.records.TypeRecord.{TypeRecord}
 use Rattle.image.specs.declared.records.StepRecord.{StepRecord}
-use Rattle.image.specs.declared.records.Port.{Port}
+use Rattle.image.specs.declared.records.PortRecord.{PortRecord}
 use Rattle.image.specs.declared.running.Running.{Running}
 use Rattle.image.specs.Bytes.{u16At}
 use Rattle.image.specs.Every.{every}
@@ -53,10 +53,10 @@ abbrev pub refsBelow : List ℕ → Counts → Run → ℕ → Bool
 refsBelow s c run n = every (run .count) (λ k. ltb (u16At s (listAt c run + 2 * k)) n)
 
 -- parent u16?, stage list
-abbrev pub layerFields : Counts → Running → Layer → Bool
+abbrev pub layerFields : Counts → Running → LayerRecord → Bool
 layerFields c r l = orNone (c .layers) (l .parent .0) && laid (r .refs) (c .refs) (l .stages)
 
-unfoldable pub layerGood : List ℕ → Counts → Running → Layer → Bool
+unfoldable pub layerGood : List ℕ → Counts → Running → LayerRecord → Bool
 layerGood s c r l = layerFields c r l && refsBelow s c (l .stages) (c .stages)
 
 -- counts 1, 2, any, 3, any
@@ -69,20 +69,20 @@ abbrev pub closureAt : List ℕ → ℕ → ℕ → Bool
 closureAt s p n = ltb (u16At s p) n && orNone n (u16At s (p + 2)) && orNone n (u16At s (p + 4))
 
 -- Inspect lists locals, the others stages
-abbrev pub entriesNamed : List ℕ → Counts → Interface → Bool
+abbrev pub entriesNamed : List ℕ → Counts → InterfaceRecord → Bool
 entriesNamed s c i =
     cond (eqb (i .kind) 4)
     (refsBelow s c (i .list) (c .locals))
     (cond (eqb (i .kind) 3) (closureAt s (listAt c (i .list)) (c .stages)) (refsBelow s c (i .list) (c .stages)))
 
 -- key 0 unless Match; the layer is judged only by the layer rules
-abbrev pub interfaceFields : Counts → Running → Interface → Bool
+abbrev pub interfaceFields : Counts → Running → InterfaceRecord → Bool
 interfaceFields c r i =
     kindLists (kindOf (i .kind)) (i .list .count)
     && (eqb (i .kind) 2 || eqb (i .key) 0)
     && laid (r .refs) (c .refs) (i .list)
 
-unfoldable pub interfaceGood : List ℕ → Counts → Running → Interface → Bool
+unfoldable pub interfaceGood : List ℕ → Counts → Running → InterfaceRecord → Bool
 interfaceGood s c r i = interfaceFields c r i && entriesNamed s c i
 
 abbrev pub headerHas : FoundHeader → ℕ → Bool
@@ -94,33 +94,33 @@ abbrev pub portsLaid : ℕ → ℕ → Run → ℕ → Bool
 portsLaid running total run payload = eqb (run .first) running && leb (run .first + run .count + payload) total
 
 -- transfer interface u16?, transfer data u8 (0 or 1; 0 without transfer)
-abbrev pub transferGood : Counts → Stage → Bool
+abbrev pub transferGood : Counts → StageRecord → Bool
 transferGood c t = orNone (c .interfaces) (t .transfer .0) && leb (t .payload) 1 && (eqb (t .payload) 0 || not (eqb (t .transfer .0) none))
 
 -- the wire counter and the key are any
-abbrev pub stageNamed : Counts → Stage → Bool
+abbrev pub stageNamed : Counts → StageRecord → Bool
 stageNamed c t =
     ltb (t .interface .0) (c .interfaces)
     && orNone (c .layers) (t .layer .0)
     && headerHas (headerOf (t .header)) (t .ports .count)
     && transferGood c t
 
-abbrev pub stageLists : Counts → Running → Stage → Bool
+abbrev pub stageLists : Counts → Running → StageRecord → Bool
 stageLists c r t =
     portsLaid (r .ports) (c .ports) (t .ports) (t .payload)
     && laid (r .steps) (c .steps) (t .steps)
     && laid (r .refs) (c .refs) (t .declarations)
 
-abbrev pub stageFields : Counts → Running → Stage → Bool
+abbrev pub stageFields : Counts → Running → StageRecord → Bool
 stageFields c r t = stageNamed c t && stageLists c r t
 
-unfoldable pub stageGood : List ℕ → Counts → Running → Stage → Bool
+unfoldable pub stageGood : List ℕ → Counts → Running → StageRecord → Bool
 stageGood s c r t = stageFields c r t && refsBelow s c (t .declarations) (c .locals)
 
-abbrev pub localGood : Counts → VirLocal → Bool
+abbrev pub localGood : Counts → LocalRecord → Bool
 localGood c l = typeNamed c (l .ty .0) && flagsGood (l .flags)
 
-abbrev pub typeGood : TypeFlags → Bool
+abbrev pub typeGood : TypeRecord → Bool
 typeGood t = flagsGood (t .upright) && flagsGood (t .inverted)
 
 abbrev pub stepHas : FoundStep → ℕ → Bool
@@ -140,5 +140,5 @@ abbrev pub stepGood : Counts → Running → StepRecord → Bool
 stepGood c r t = stepHas (stepOf (t .tag) (t .a) (t .b)) (t .ports .count) && stepNamed c t && laid (r .ports) (c .ports) (t .ports)
 
 -- kind 0..7, 6 Wire; b is 0 but for a wire
-abbrev pub portGood : Counts → Port → Bool
+abbrev pub portGood : Counts → PortRecord → Bool
 portGood c p = typeNamed c (p .ty .0) && leb (p .kind) 7 && (eqb (p .kind) 6 || eqb (p .b) 0)

@@ -5,13 +5,13 @@ use Prim.Native.Nat.{ℕ, zero, suc, _+_}
 use Rattle.image.specs.declared.layout.Counts.{Counts}
 use Rattle.image.specs.declared.layout.Section.{Section}
 use Rattle.image.specs.declared.layout.Section.the-variants.{Layers, Interfaces, Stages, Locals, Types, Steps, Ports}
-use Rattle.image.specs.declared.records.Layer.{Layer}
-use Rattle.image.specs.declared.records.Interface.{Interface}
-use Rattle.image.specs.declared.records.Stage.{Stage}
-use Rattle.image.specs.declared.records.VirLocal.{VirLocal}
-use Rattle.image.specs.declared.records.TypeFlags.{TypeFlags}
+use Rattle.image.specs.declared.records.LayerRecord.{LayerRecord}
+use Rattle.image.specs.declared.records.InterfaceRecord.{InterfaceRecord}
+use Rattle.image.specs.declared.records.StageRecord.{StageRecord}
+use Rattle.image.specs.declared.records.LocalRecord.{LocalRecord}
+use Rattle.image.specs.declared.records.TypeRecord.{TypeRecord}
 use Rattle.image.specs.declared.records.StepRecord.{StepRecord}
-use Rattle.image.specs.declared.records.Port.{Port}
+use Rattle.image.specs.declared.records.PortRecord.{PortRecord}
 use Rattle.image.specs.declared.running.Running.{Running}
 use Rattle.image.specs.declared.running.Judged.{Judged}
 use Rattle.image.specs.declared.running.Judged.the-variants.{Fault, Next}
@@ -22,16 +22,16 @@ use Rattle.image.specs.Layout.{sizeOf, countOf, startOf}
 use Rattle.image.specs.Records.{layerAt, interfaceAt, stageAt, localAt, typeAt, stepAt, portAt}
 
 -- lists are laid end to end: refs by layer, then interface, then stage
-abbrev pub judgeLayer : List ℕ → Counts → Running → Layer → Judged
+abbrev pub judgeLayer : List ℕ → Counts → Running → LayerRecord → Judged
 judgeLayer s c r l =
     cond (layerGood s c r l) (Next (record { refs = r .refs + l .stages .count; steps = r .steps; ports = r .ports })) Fault
 
-abbrev pub judgeInterface : List ℕ → Counts → Running → Interface → Judged
+abbrev pub judgeInterface : List ℕ → Counts → Running → InterfaceRecord → Judged
 judgeInterface s c r i =
     cond (interfaceGood s c r i) (Next (record { refs = r .refs + i .list .count; steps = r .steps; ports = r .ports })) Fault
 
 -- steps by stage; ports by stage (header, then transfer data), then by step
-abbrev pub judgeStage : List ℕ → Counts → Running → Stage → Judged
+abbrev pub judgeStage : List ℕ → Counts → Running → StageRecord → Judged
 judgeStage s c r t =
     cond (stageGood s c r t)
     (Next (record {
@@ -41,16 +41,16 @@ judgeStage s c r t =
     }))
     Fault
 
-abbrev pub judgeLocal : Counts → Running → VirLocal → Judged
+abbrev pub judgeLocal : Counts → Running → LocalRecord → Judged
 judgeLocal c r l = cond (localGood c l) (Next r) Fault
 
-abbrev pub judgeType : Running → TypeFlags → Judged
+abbrev pub judgeType : Running → TypeRecord → Judged
 judgeType r t = cond (typeGood t) (Next r) Fault
 
 abbrev pub judgeStep : Counts → Running → StepRecord → Judged
 judgeStep c r t = cond (stepGood c r t) (Next (record { refs = r .refs; steps = r .steps; ports = r .ports + t .ports .count })) Fault
 
-abbrev pub judgePort : Counts → Running → Port → Judged
+abbrev pub judgePort : Counts → Running → PortRecord → Judged
 judgePort c r p = cond (portGood c p) (Next r) Fault
 
 -- the record of a section at a place

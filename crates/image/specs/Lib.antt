@@ -1,6 +1,12 @@
 pub mod Bytes
+pub mod Check
+pub mod Encode
 pub mod Every
 pub mod Faults
 pub mod Judge
+pub mod Kind
+pub mod LayerRules
 pub mod Layout
 pub mod Records
+pub mod View
+pub mod Vir

@@ -12,14 +12,14 @@ ghost use Rattle.image.specs.Layout.{refsAt, lengthOf};
 ghost use Rattle.image.specs.Faults.{orNone, typeNamed, flagsGood, laid, refsBelow, layerFields, layerGood, kindLists, closureAt, entriesNamed, interfaceFields, interfaceGood, headerHas, portsLaid, transferGood, stageNamed, stageLists, stageFields, stageGood, localGood, typeGood, stepHas, stepNamed, stepGood, portGood};
 use crate::bytes::u16_at;
 use crate::layout::Counts;
-use crate::records::Interface;
-use crate::records::Layer;
-use crate::records::Port;
+use crate::records::InterfaceRecord;
+use crate::records::LayerRecord;
+use crate::records::LocalRecord;
+use crate::records::PortRecord;
 use crate::records::Run;
-use crate::records::Stage;
+use crate::records::StageRecord;
 use crate::records::StepRecord;
-use crate::records::TypeFlags;
-use crate::records::VirLocal;
+use crate::records::TypeRecord;
 use crate::running::Running;
 use vir::header::FoundHeader;
 use vir::header::Header;
@@ -70,20 +70,20 @@ fn refs_below(s: &[u8], at: usize, count: u16, n: u16) -> bool
     true
 }
 
-pub fn local_good(c: Counts, l: VirLocal) -> bool
+pub fn local_good(c: Counts, l: LocalRecord) -> bool
     ensures { λ r. ⌜ r ≡ localGood c l ⌝ }
 {
     let ty = l.ty;
     type_named(c, ty) & flags_good(l.flags)
 }
 
-pub fn type_good(t: TypeFlags) -> bool
+pub fn type_good(t: TypeRecord) -> bool
     ensures { λ r. ⌜ r ≡ typeGood t ⌝ }
 {
     flags_good(t.upright) & flags_good(t.inverted)
 }
 
-pub fn port_good(c: Counts, p: Port) -> bool
+pub fn port_good(c: Counts, p: PortRecord) -> bool
     ensures { λ r. ⌜ r ≡ portGood c p ⌝ }
 {
     let ty = p.ty;
@@ -117,14 +117,14 @@ fn step_has(t: StepRecord) -> bool
     }
 }
 
-fn layer_fields(c: Counts, r: Running, l: Layer) -> bool
+fn layer_fields(c: Counts, r: Running, l: LayerRecord) -> bool
     ensures { λ b. ⌜ b ≡ layerFields c r l ⌝ }
 {
     let run = l.stages;
     or_none(c.layers, l.parent.0) & laid(r.refs, c.refs, run)
 }
 
-pub fn layer_good(s: &[u8], c: Counts, at: usize, r: Running, l: Layer) -> bool
+pub fn layer_good(s: &[u8], c: Counts, at: usize, r: Running, l: LayerRecord) -> bool
     requires { ⌜ at ≡ refsAt c ⌝ }
     requires { ⌜ length (now s) ≡ lengthOf c ⌝ }
     ensures { λ b. ⌜ b ≡ layerGood (now (s .entry)) c r l ⌝ }
@@ -147,7 +147,7 @@ fn closure_named(s: &[u8], at: usize, n: u16) -> bool
     (u16_at(s, at) < n) & or_none(n, u16_at(s, at + 2)) & or_none(n, u16_at(s, at + 4))
 }
 
-fn entries_named(s: &[u8], c: Counts, at: usize, i: Interface) -> bool
+fn entries_named(s: &[u8], c: Counts, at: usize, i: InterfaceRecord) -> bool
     requires { ⌜ at ≡ refsAt c + 2 * i .list .first ⌝ }
     requires { ⌜ at + 2 * i .list .count ≤ length (now s) ⌝ }
     requires { ⌜ (i .kind ≡ 3 → i .list .count ≡ 3) ⌝ }
@@ -162,14 +162,14 @@ fn entries_named(s: &[u8], c: Counts, at: usize, i: Interface) -> bool
     refs_below(s, at, i.list.count, c.stages)
 }
 
-fn interface_fields(c: Counts, r: Running, i: Interface) -> bool
+fn interface_fields(c: Counts, r: Running, i: InterfaceRecord) -> bool
     ensures { λ b. ⌜ b ≡ interfaceFields c r i ⌝ }
 {
     let list = i.list;
     kind_lists(i.kind, i.list.count) & ((i.kind == 2) | (i.key == 0)) & laid(r.refs, c.refs, list)
 }
 
-pub fn interface_good(s: &[u8], c: Counts, at: usize, r: Running, i: Interface) -> bool
+pub fn interface_good(s: &[u8], c: Counts, at: usize, r: Running, i: InterfaceRecord) -> bool
     requires { ⌜ at ≡ refsAt c ⌝ }
     requires { ⌜ length (now s) ≡ lengthOf c ⌝ }
     ensures { λ b. ⌜ b ≡ interfaceGood (now (s .entry)) c r i ⌝ }
@@ -187,7 +187,7 @@ fn ports_laid(running: u16, total: u16, run: Run, payload: u8) -> bool
         & ((run.first as usize) + (run.count as usize) + (payload as usize) <= (total as usize))
 }
 
-fn transfer_good(c: Counts, t: Stage) -> bool
+fn transfer_good(c: Counts, t: StageRecord) -> bool
     ensures { λ b. ⌜ b ≡ transferGood c t ⌝ }
 {
     or_none(c.interfaces, t.transfer.0)
@@ -195,7 +195,7 @@ fn transfer_good(c: Counts, t: Stage) -> bool
         & ((t.payload == 0) | (t.transfer.0 != 65535))
 }
 
-fn stage_named(c: Counts, t: Stage) -> bool
+fn stage_named(c: Counts, t: StageRecord) -> bool
     ensures { λ b. ⌜ b ≡ stageNamed c t ⌝ }
 {
     (t.interface.0 < c.interfaces)
@@ -204,7 +204,7 @@ fn stage_named(c: Counts, t: Stage) -> bool
         & transfer_good(c, t)
 }
 
-fn stage_lists(c: Counts, r: Running, t: Stage) -> bool
+fn stage_lists(c: Counts, r: Running, t: StageRecord) -> bool
     ensures { λ b. ⌜ b ≡ stageLists c r t ⌝ }
 {
     let ports = t.ports;
@@ -215,13 +215,13 @@ fn stage_lists(c: Counts, r: Running, t: Stage) -> bool
         & laid(r.refs, c.refs, declarations)
 }
 
-fn stage_fields(c: Counts, r: Running, t: Stage) -> bool
+fn stage_fields(c: Counts, r: Running, t: StageRecord) -> bool
     ensures { λ b. ⌜ b ≡ stageFields c r t ⌝ }
 {
     stage_named(c, t) & stage_lists(c, r, t)
 }
 
-pub fn stage_good(s: &[u8], c: Counts, at: usize, r: Running, t: Stage) -> bool
+pub fn stage_good(s: &[u8], c: Counts, at: usize, r: Running, t: StageRecord) -> bool
     requires { ⌜ at ≡ refsAt c ⌝ }
     requires { ⌜ length (now s) ≡ lengthOf c ⌝ }
     ensures { λ b. ⌜ b ≡ stageGood (now (s .entry)) c r t ⌝ }

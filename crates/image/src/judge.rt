@@ -13,17 +13,17 @@ use crate::faults::step_good;
 use crate::faults::type_good;
 use crate::layout::Counts;
 use crate::layout::Section;
-use crate::records::Interface;
-use crate::records::Layer;
-use crate::records::Port;
-use crate::records::Stage;
+use crate::records::InterfaceRecord;
+use crate::records::LayerRecord;
+use crate::records::LocalRecord;
+use crate::records::PortRecord;
+use crate::records::StageRecord;
 use crate::records::StepRecord;
-use crate::records::TypeFlags;
-use crate::records::VirLocal;
+use crate::records::TypeRecord;
 use crate::running::Judged;
 use crate::running::Running;
 
-fn judge_layer(s: &[u8], c: Counts, at: usize, r: Running, l: Layer) -> Judged
+fn judge_layer(s: &[u8], c: Counts, at: usize, r: Running, l: LayerRecord) -> Judged
     requires { ⌜ at ≡ refsAt c ⌝ }
     requires { ⌜ Sized (now s) c ⌝ }
     ensures { λ j. ⌜ j ≡ judgeLayer (now (s .entry)) c r l ⌝ }
@@ -38,7 +38,7 @@ fn judge_layer(s: &[u8], c: Counts, at: usize, r: Running, l: Layer) -> Judged
     })
 }
 
-fn judge_interface(s: &[u8], c: Counts, at: usize, r: Running, i: Interface) -> Judged
+fn judge_interface(s: &[u8], c: Counts, at: usize, r: Running, i: InterfaceRecord) -> Judged
     requires { ⌜ at ≡ refsAt c ⌝ }
     requires { ⌜ Sized (now s) c ⌝ }
     ensures { λ j. ⌜ j ≡ judgeInterface (now (s .entry)) c r i ⌝ }
@@ -53,7 +53,7 @@ fn judge_interface(s: &[u8], c: Counts, at: usize, r: Running, i: Interface) -> 
     })
 }
 
-fn judge_stage(s: &[u8], c: Counts, at: usize, r: Running, t: Stage) -> Judged
+fn judge_stage(s: &[u8], c: Counts, at: usize, r: Running, t: StageRecord) -> Judged
     requires { ⌜ at ≡ refsAt c ⌝ }
     requires { ⌜ Sized (now s) c ⌝ }
     ensures { λ j. ⌜ j ≡ judgeStage (now (s .entry)) c r t ⌝ }
@@ -69,7 +69,7 @@ fn judge_stage(s: &[u8], c: Counts, at: usize, r: Running, t: Stage) -> Judged
     })
 }
 
-fn judge_local(c: Counts, r: Running, l: VirLocal) -> Judged
+fn judge_local(c: Counts, r: Running, l: LocalRecord) -> Judged
     ensures { λ j. ⌜ j ≡ judgeLocal c r l ⌝ }
 {
     if !local_good(c, l) {
@@ -78,7 +78,7 @@ fn judge_local(c: Counts, r: Running, l: VirLocal) -> Judged
     Judged::Next(r)
 }
 
-fn judge_type(r: Running, t: TypeFlags) -> Judged
+fn judge_type(r: Running, t: TypeRecord) -> Judged
     ensures { λ j. ⌜ j ≡ judgeType r t ⌝ }
 {
     if !type_good(t) {
@@ -101,7 +101,7 @@ fn judge_step(c: Counts, r: Running, t: StepRecord) -> Judged
     })
 }
 
-fn judge_port(c: Counts, r: Running, p: Port) -> Judged
+fn judge_port(c: Counts, r: Running, p: PortRecord) -> Judged
     ensures { λ j. ⌜ j ≡ judgePort c r p ⌝ }
 {
     if !port_good(c, p) {
@@ -118,12 +118,12 @@ pub fn judge(x: Section, s: &[u8], c: Counts, at: usize, p: usize, r: Running) -
     ensures { λ j. ⌜ j ≡ judge x (now (s .entry)) c p r ⌝ }
 {
     match x {
-        Section::Layers => judge_layer(s, c, at, r, Layer::read(s, p)),
-        Section::Interfaces => judge_interface(s, c, at, r, Interface::read(s, p)),
-        Section::Stages => judge_stage(s, c, at, r, Stage::read(s, p)),
-        Section::Locals => judge_local(c, r, VirLocal::read(s, p)),
-        Section::Types => judge_type(r, TypeFlags::read(s, p)),
+        Section::Layers => judge_layer(s, c, at, r, LayerRecord::read(s, p)),
+        Section::Interfaces => judge_interface(s, c, at, r, InterfaceRecord::read(s, p)),
+        Section::Stages => judge_stage(s, c, at, r, StageRecord::read(s, p)),
+        Section::Locals => judge_local(c, r, LocalRecord::read(s, p)),
+        Section::Types => judge_type(r, TypeRecord::read(s, p)),
         Section::Steps => judge_step(c, r, StepRecord::read(s, p)),
-        Section::Ports => judge_port(c, r, Port::read(s, p)),
+        Section::Ports => judge_port(c, r, PortRecord::read(s, p)),
     }
 }

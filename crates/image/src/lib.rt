@@ -1,4 +1,5 @@
 // The image of document 01: its bytes as records, and whether it is one.
+pub mod answer;
 pub mod bytes;
 pub mod faults;
 pub mod judge;

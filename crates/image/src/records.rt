@@ -15,19 +15,19 @@ pub struct Run {
     pub count: u16,
 }
 
-pub struct Layer {
+pub struct LayerRecord {
     pub parent: LayerId,
     pub stages: Run,
 }
 
-pub struct Interface {
+pub struct InterfaceRecord {
     pub layer: LayerId,
     pub kind: u8,
     pub key: u16,
     pub list: Run,
 }
 
-pub struct Stage {
+pub struct StageRecord {
     pub span: Span,
     pub interface: InterfaceId,
     pub layer: LayerId,
@@ -41,13 +41,13 @@ pub struct Stage {
     pub payload: u8,
 }
 
-pub struct VirLocal {
+pub struct LocalRecord {
     pub span: Span,
     pub ty: Type,
     pub flags: u8,
 }
 
-pub struct TypeFlags {
+pub struct TypeRecord {
     pub upright: u8,
     pub inverted: u8,
 }
@@ -60,7 +60,7 @@ pub struct StepRecord {
     pub ports: Run,
 }
 
-pub struct Port {
+pub struct PortRecord {
     pub ty: Type,
     pub kind: u8,
     pub a: u32,
@@ -79,24 +79,24 @@ impl Run {
     }
 }
 
-impl Layer {
-    pub fn read(s: &[u8], p: usize) -> Layer
+impl LayerRecord {
+    pub fn read(s: &[u8], p: usize) -> LayerRecord
         requires { ⌜ p + 6 ≤ length (now s) ⌝ }
         ensures { λ r. ⌜ r ≡ layerAt (now (s .entry)) p ⌝ }
     {
-        Layer {
+        LayerRecord {
             parent: LayerId(u16_at(s, p)),
             stages: Run::read(s, p + 2),
         }
     }
 }
 
-impl Interface {
-    pub fn read(s: &[u8], p: usize) -> Interface
+impl InterfaceRecord {
+    pub fn read(s: &[u8], p: usize) -> InterfaceRecord
         requires { ⌜ p + 9 ≤ length (now s) ⌝ }
         ensures { λ r. ⌜ r ≡ interfaceAt (now (s .entry)) p ⌝ }
     {
-        Interface {
+        InterfaceRecord {
             layer: LayerId(u16_at(s, p)),
             kind: s[p + 2],
             key: u16_at(s, p + 3),
@@ -105,12 +105,12 @@ impl Interface {
     }
 }
 
-impl Stage {
-    pub fn read(s: &[u8], p: usize) -> Stage
+impl StageRecord {
+    pub fn read(s: &[u8], p: usize) -> StageRecord
         requires { ⌜ p + 30 ≤ length (now s) ⌝ }
         ensures { λ r. ⌜ r ≡ stageAt (now (s .entry)) p ⌝ }
     {
-        Stage {
+        StageRecord {
             span: Span(u32_at(s, p)),
             interface: InterfaceId(u16_at(s, p + 4)),
             layer: LayerId(u16_at(s, p + 6)),
@@ -126,12 +126,12 @@ impl Stage {
     }
 }
 
-impl VirLocal {
-    pub fn read(s: &[u8], p: usize) -> VirLocal
+impl LocalRecord {
+    pub fn read(s: &[u8], p: usize) -> LocalRecord
         requires { ⌜ p + 7 ≤ length (now s) ⌝ }
         ensures { λ r. ⌜ r ≡ localAt (now (s .entry)) p ⌝ }
     {
-        VirLocal {
+        LocalRecord {
             span: Span(u32_at(s, p)),
             ty: Type(u16_at(s, p + 4)),
             flags: s[p + 6],
@@ -139,12 +139,12 @@ impl VirLocal {
     }
 }
 
-impl TypeFlags {
-    pub fn read(s: &[u8], p: usize) -> TypeFlags
+impl TypeRecord {
+    pub fn read(s: &[u8], p: usize) -> TypeRecord
         requires { ⌜ p + 2 ≤ length (now s) ⌝ }
         ensures { λ r. ⌜ r ≡ typeAt (now (s .entry)) p ⌝ }
     {
-        TypeFlags {
+        TypeRecord {
             upright: s[p],
             inverted: s[p + 1],
         }
@@ -165,12 +165,12 @@ impl StepRecord {
     }
 }
 
-impl Port {
-    pub fn read(s: &[u8], p: usize) -> Port
+impl PortRecord {
+    pub fn read(s: &[u8], p: usize) -> PortRecord
         requires { ⌜ p + 9 ≤ length (now s) ⌝ }
         ensures { λ r. ⌜ r ≡ portAt (now (s .entry)) p ⌝ }
     {
-        Port {
+        PortRecord {
             ty: Type(u16_at(s, p)),
             kind: s[p + 2],
             a: u32_at(s, p + 3),

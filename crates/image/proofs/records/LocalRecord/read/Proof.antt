@@ -1,6 +1,6 @@
 use borrow.Author.Needs.{needs}
-use Rattle.image.proofs.records.VirLocal.read.Statement.{statement}
-use Rattle.image.proofs.records.VirLocal.read.Tie as tie
+use Rattle.image.proofs.records.LocalRecord.read.Statement.{statement}
+use Rattle.image.proofs.records.LocalRecord.read.Tie as tie
 
 u32-at-requires : tie.Need-u32-at-requires
 u32-at-requires c κs = search needs

@@ -1,6 +1,6 @@
 use borrow.Author.Needs.{needs}
-use Rattle.image.proofs.records.Port.read.Statement.{statement}
-use Rattle.image.proofs.records.Port.read.Tie as tie
+use Rattle.image.proofs.records.PortRecord.read.Statement.{statement}
+use Rattle.image.proofs.records.PortRecord.read.Tie as tie
 
 u16-at-requires : tie.Need-u16-at-requires
 u16-at-requires c κs = search needs

@@ -1,6 +1,6 @@
 use borrow.Author.Needs.{needs}
-use Rattle.image.proofs.records.Stage.read.Statement.{statement}
-use Rattle.image.proofs.records.Stage.read.Tie as tie
+use Rattle.image.proofs.records.StageRecord.read.Statement.{statement}
+use Rattle.image.proofs.records.StageRecord.read.Tie as tie
 
 u32-at-requires : tie.Need-u32-at-requires
 u32-at-requires c κs = search needs

@@ -1,6 +1,6 @@
 use borrow.Author.Needs.{needs}
-use Rattle.image.proofs.records.Interface.read.Statement.{statement}
-use Rattle.image.proofs.records.Interface.read.Tie as tie
+use Rattle.image.proofs.records.InterfaceRecord.read.Statement.{statement}
+use Rattle.image.proofs.records.InterfaceRecord.read.Tie as tie
 
 u16-at-requires : tie.Need-u16-at-requires
 u16-at-requires c κs = search needs
