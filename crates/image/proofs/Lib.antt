@@ -3,4 +3,5 @@ pub mod Every
 pub mod Fits
 pub mod Guards
 pub mod Judging
+pub mod Viewing
 pub mod Walks
