@@ -3,5 +3,6 @@ pub mod Every
 pub mod Fits
 pub mod Guards
 pub mod Judging
+pub mod Tallies
 pub mod Viewing
 pub mod Walks

@@ -8,5 +8,6 @@ pub mod Kind
 pub mod LayerRules
 pub mod Layout
 pub mod Records
+pub mod Tally
 pub mod View
 pub mod Vir

@@ -6,4 +6,5 @@ pub mod judge;
 pub mod layout;
 pub mod records;
 pub mod running;
+pub mod tally;
 pub mod walk;
