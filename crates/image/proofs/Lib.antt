@@ -1,8 +1,12 @@
+pub mod Accepting
+pub mod Climbing
 pub mod Computed
 pub mod Every
+pub mod Fields
 pub mod Fits
 pub mod Guards
 pub mod Judging
+pub mod Owning
 pub mod Tallies
 pub mod Viewing
 pub mod Walks

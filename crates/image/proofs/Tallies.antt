@@ -91,11 +91,11 @@ tally-counts (x ∷ ts) counts t h k =
         → getD (tally ts rest) t 0 ≡ min 2 (getD counts t 0 + (cond b 1 0 + occurrences t ts))
     go true e rest r ih =
         let here : getD rest t 0 ≡ bump (getD counts t 0) =
-            ap (λ (l : List ℕ). getD l t 0) r
-            ∙ subst (λ (y : ℕ). getD (set counts y (bump (getD counts y 0))) t 0 ≡ bump (getD counts t 0)) (sym (eqb-true x t e))
-            (getD-set-same counts t (bump (getD counts t 0)) 0 h) in
+        ap (λ (l : List ℕ). getD l t 0) r
+        ∙ subst (λ (y : ℕ). getD (set counts y (bump (getD counts y 0))) t 0 ≡ bump (getD counts t 0)) (sym (eqb-true x t e))
+        (getD-set-same counts t (bump (getD counts t 0)) 0 h) in
         omega (arith, ih (omega (arith, here, bump-min (getD counts t 0) k)), here, bump-min (getD counts t 0) k)
     go false e rest r ih =
         let here : getD rest t 0 ≡ getD counts t 0 =
-            ap (λ (l : List ℕ). getD l t 0) r ∙ getD-set-other counts x t (bump (getD counts x 0)) 0 (λ z. eqb-false x t e (sym z)) in
+        ap (λ (l : List ℕ). getD l t 0) r ∙ getD-set-other counts x t (bump (getD counts x 0)) 0 (λ z. eqb-false x t e (sym z)) in
         omega (arith, ih (omega (arith, here)), here)

@@ -2,7 +2,9 @@
 pub mod answer;
 pub mod bytes;
 pub mod faults;
+pub mod flat;
 pub mod judge;
+pub mod layer_rules;
 pub mod layout;
 pub mod records;
 pub mod running;
