@@ -1,5 +1,5 @@
 -- Laws of a test at every number below another: what a loop that tests them one by one needs.
-use mathlib.Core.Path.{_≡_, _∙_, refl, sym, ap, subst}
+use mathlib.Core.Path.{_≡_, _∙_, refl, sym, ap, ap₂, subst}
 use mathlib.Core.Bool.{Bool, true, false, _&&_, and-false, true≢false}
 use Prim.Native.Nat.{ℕ, zero, suc, _+_, _<_, _≤_}
 use native.Mathlib.Nat.{not-suc-le-zero}
@@ -41,3 +41,9 @@ every-at f n i t h = go (f i) refl
     go : (b : Bool) → f i ≡ b → f i ≡ true
     go true e = e
     go false e = let z : true ≡ false = sym t ∙ every-stop f n i h e in absurd (true≢false z)
+
+-- tests that agree below n agree at every number below it
+pub every-cong : (f g : ℕ → Bool) (n : ℕ) → ((k : ℕ) → k < n → f k ≡ g k) → every n f ≡ every n g
+unfolding every
+every-cong f g zero h = refl
+every-cong f g (suc n) h = ap₂ _&&_ (every-cong f g n (λ k l. h k (omega arith))) (h n (omega arith))

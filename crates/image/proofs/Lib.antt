@@ -1,11 +1,13 @@
 pub mod Accepting
 pub mod Climbing
 pub mod Computed
+pub mod Deciding
 pub mod Every
 pub mod Fields
 pub mod Fits
 pub mod Guards
 pub mod Judging
+pub mod Listing
 pub mod Owning
 pub mod Tallies
 pub mod Viewing

@@ -5,14 +5,16 @@ use mathlib.Core.List.{List, [], _∷_, _++_}
 use Prim.Native.Nat.{ℕ, zero, suc, _+_, _-_, _<_, _≤_, min}
 use native.Mathlib.Numerals.{add-one}
 use native.Mathlib.Omega.{arith}
-use lib.Dec.{eqb, ltb}
-use borrow.Author.Tests.{eq-eqb, ne-eqb, ltb-true, ltb-false, eqb-true, eqb-false}
-use lib.ListN.{length, getD, set, length-set}
+use lib.Dec.{eqb, ltb, leb}
+use borrow.Author.Tests.{eq-eqb, ne-eqb, lt-ltb, ltb-true, ltb-false, eqb-true, eqb-false}
+use lib.ListN.{length, getD, set, length-set, replicate, length-replicate, getD-replicate}
 use lib.Seq.{getD-set-same, getD-set-other}
 use Rattle.vir.specs.Ids.{none}
+use Rattle.image.specs.Every.{every}
 use Rattle.image.specs.Kind.{all, occurrences, present}
-use Rattle.image.specs.Tally.{bump, tally, tallyEntry, owns}
+use Rattle.image.specs.Tally.{bump, tally, tallyEntry, owns, countedAt}
 use Rattle.image.specs.View.{collect}
+use Rattle.image.proofs.Every.{every-cong}
 
 pub record Tallying (f : ℕ → Bool) (g : ℕ → ℕ) (all-own : Bool) (counted : List ℕ) (k left : ℕ) (ok : Bool) (counts : List ℕ) : Type 0 where
   pub own : (ok && all f (present (collect g k left))) ≡ all-own
@@ -99,3 +101,40 @@ tally-counts (x ∷ ts) counts t h k =
         let here : getD rest t 0 ≡ getD counts t 0 =
         ap (λ (l : List ℕ). getD l t 0) r ∙ getD-set-other counts x t (bump (getD counts x 0)) 0 (λ z. eqb-false x t e (sym z)) in
         omega (arith, ih (omega (arith, here)), here)
+
+-- what a count up to two says of the number itself
+one-or-more : (n : ℕ) → (leb 1 (min 2 n) && leb (min 2 n) 2) ≡ ltb 0 n
+one-or-more zero = refl
+one-or-more (suc zero) = refl
+one-or-more (suc (suc n)) =
+    let several : min 2 (suc (suc n)) ≡ 2 = omega arith in
+    ap (λ (k : ℕ). leb 1 k && leb k 2) several ∙ sym (lt-ltb 0 (suc (suc n)) (omega arith))
+
+just-one : (n : ℕ) → (leb 1 (min 2 n) && leb (min 2 n) 1) ≡ eqb n 1
+just-one zero = refl
+just-one (suc zero) = refl
+just-one (suc (suc n)) =
+    let several : min 2 (suc (suc n)) ≡ 2 = omega arith in
+    ap (λ (k : ℕ). leb 1 k && leb k 1) several ∙ sym (ne-eqb (suc (suc n)) 1 (λ e. omega arith))
+
+abbrev pub zeros : List ℕ
+zeros = replicate 256 0
+
+-- counted from nothing
+module _ (n : ℕ) (ts : List ℕ) (room : n ≤ 256) where
+  from-nothing : (t : ℕ) → t < n → getD (tally ts zeros) t 0 ≡ min 2 (occurrences t ts)
+  from-nothing t h =
+      let fits : t < 256 = omega arith in
+      let empty : getD zeros t 0 ≡ 0 = getD-replicate 256 t 0 0 fits in
+      tally-counts ts zeros t (subst (λ (m : ℕ). t < m) (sym (length-replicate {A = ℕ} 256 0)) fits) (omega (arith, empty))
+      ∙ ap (λ (k : ℕ). min 2 (k + occurrences t ts)) empty ∙ ap (min 2) (omega arith)
+
+  pub counted-any : every n (countedAt (tally ts zeros) 2) ≡ every n (λ t. ltb 0 (occurrences t ts))
+  counted-any =
+      every-cong _ _ n
+      (λ t h. ap (λ (k : ℕ). leb 1 k && leb k 2) (from-nothing t h) ∙ one-or-more (occurrences t ts))
+
+  pub counted-once : every n (countedAt (tally ts zeros) 1) ≡ every n (λ t. eqb (occurrences t ts) 1)
+  counted-once =
+      every-cong _ _ n
+      (λ t h. ap (λ (k : ℕ). leb 1 k && leb k 1) (from-nothing t h) ∙ just-one (occurrences t ts))

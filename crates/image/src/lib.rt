@@ -4,6 +4,7 @@ pub mod bytes;
 pub mod faults;
 pub mod flat;
 pub mod judge;
+pub mod kind;
 pub mod layer_rules;
 pub mod layout;
 pub mod records;
