@@ -1,23 +1,27 @@
--- The stages that an interface lists, in the view and in the bytes.
+-- The stages that an interface or a layer lists, in the view and in the bytes.
 use mathlib.Core.Path.{_≡_, _∙_, refl, sym, ap, subst}
-use mathlib.Core.Bool.{Bool, true, _&&_, and-true}
+use mathlib.Core.Bool.{Bool, true, cond, _&&_, and-true}
 use mathlib.Core.List.{List, [], _∷_}
-use Prim.Native.Nat.{ℕ, zero, suc, _+_, _*_, _<_, _≤_}
+use Prim.Native.Nat.{ℕ, zero, suc, _+_, _*_, _-_, _<_, _≤_}
 use native.Mathlib.Nat.{le-of-suc-le-suc, not-suc-le-zero}
+use native.Mathlib.Omega.{arith}
 use lib.Dec.{eqb}
+use borrow.Author.Tests.{ne-eqb}
+use Rattle.vir.specs.Ids.{none}
 use Rattle.vir.specs.Interface.{kindOf}
 use Rattle.image.specs.declared.layout.Counts.{Counts}
 use Rattle.image.specs.declared.records.InterfaceRecord.{InterfaceRecord}
+use Rattle.image.specs.declared.records.LayerRecord.{LayerRecord}
 use Rattle.image.specs.Accepted.{Accepted, NamedOrNone}
 use Rattle.image.specs.Bytes.{u16At}
 use Rattle.image.specs.Kind.{all, present, stagesIn, stagesOf}
-use Rattle.image.specs.Layout.{refsAt, interfacesAt, stagesAt}
-use Rattle.image.specs.Records.{interfaceAt, stageAt}
+use Rattle.image.specs.Layout.{refsAt, layersAt, interfacesAt, stagesAt}
+use Rattle.image.specs.Records.{layerAt, interfaceAt, stageAt}
 use Rattle.image.specs.Tally.{tally, fieldIs}
-use Rattle.image.specs.View.{kindIn, refsFrom, viewOf, stageOfRecord, interfaceOfRecord}
-use Rattle.image.specs.Vir.{Interface, Stage, interfaceOf, stageOf}
+use Rattle.image.specs.View.{collect, kindIn, refsFrom, viewOf}
+use Rattle.image.specs.Vir.{Layer, Interface, Stage, layerOf, interfaceOf, stageOf}
 use Rattle.image.proofs.Owning.{all-named, entries-named}
-use Rattle.image.proofs.Viewing.{interface-at, stage-at}
+use Rattle.image.proofs.Viewing.{layer-at, interface-at, stage-at}
 
 kind-lists : (k : ℕ) (l : List ℕ) → k < 5 → (k ≡ 4 → ⊥) → stagesIn (kindIn (kindOf k)) l ≡ present l
 unfolding kindOf
@@ -69,3 +73,43 @@ module _ (s : List ℕ) (c : Counts) (a : Accepted s c) (i : ℕ) (h : i < c .in
       × (after ≡ tally (stagesOf (interfaceOf (viewOf s c) i)) counts)
   list-adds ok counts n p q =
       (ap (λ (b : Bool). ok && b) (p ∙ own-all n), q ∙ sym (ap (λ (l : List ℕ). tally l counts) (lists-present n)))
+
+-- a list in which nothing is none is listed whole
+present-whole : (e : ℕ → ℕ) (k n : ℕ) → ((j : ℕ) → k ≤ j → j < k + n → e j ≡ none → ⊥) → present (collect e k n) ≡ collect e k n
+unfolding present collect
+present-whole e k zero h = refl
+present-whole e k (suc n) h =
+    ap (λ (b : Bool). cond b (present (collect e (suc k) n)) (e k ∷ present (collect e (suc k) n))) (ne-eqb (e k) none (h k (omega arith) (omega arith)))
+    ∙ ap (λ (l : List ℕ). e k ∷ l) (present-whole e (suc k) n (λ j a b. h j (omega arith) (omega arith)))
+
+module _ (s : List ℕ) (c : Counts) (a : Accepted s c) (l : ℕ) (h : l < c .layers) where
+  abbrev there : LayerRecord
+  there = layerAt s (layersAt c + 6 * l)
+
+  stages-named : (j : ℕ) → there .stages .first ≤ j → j < there .stages .first + there .stages .count → u16At s (refsAt c + 2 * j) < c .stages
+  stages-named j p q =
+      let place : refsAt c + 2 * there .stages .first + 2 * (j - there .stages .first) ≡ refsAt c + 2 * j = omega arith in
+      subst (λ (n : ℕ). u16At s n < c .stages) place (a .layers l h .named (j - there .stages .first) (omega arith))
+
+  pub layer-list : present (refsFrom s c (there .stages)) ≡ layerOf (viewOf s c) l .stages
+  layer-list =
+      present-whole (λ k. u16At s (refsAt c + 2 * k)) (there .stages .first) (there .stages .count)
+      (λ j p q e. omega (arith, stages-named j p q, a .sized .stages))
+      ∙ sym (ap (λ (x : Layer). x .stages) (layer-at s c l h))
+
+  -- the layer field of a stage
+  field-layer : (t : ℕ) → t < c .stages → fieldIs s c 6 l t ≡ eqb (stageOf (viewOf s c) t .layer) l
+  field-layer t k = sym (ap (λ (x : Stage). eqb (x .layer) l) (stage-at s c t k))
+
+  pub layer-adds : (ok : Bool) (counts : List ℕ) {r : Bool} {after : List ℕ}
+      → r ≡ all (fieldIs s c 6 l) (present (refsFrom s c (there .stages))) → after ≡ tally (present (refsFrom s c (there .stages))) counts
+      → ((ok && r) ≡ (ok && all (λ t. eqb (stageOf (viewOf s c) t .layer) l) (layerOf (viewOf s c) l .stages)))
+      × (after ≡ tally (layerOf (viewOf s c) l .stages) counts)
+  layer-adds ok counts p q = (
+    ap (λ (b : Bool). ok && b)
+        (p
+        ∙ all-named (fieldIs s c 6 l) (λ t. eqb (stageOf (viewOf s c) t .layer) l) (λ k. u16At s (refsAt c + 2 * k)) (c .stages) (there .stages .first)
+        (there .stages .count) (λ j x y n. stages-named j x y) field-layer
+        ∙ ap (all (λ t. eqb (stageOf (viewOf s c) t .layer) l)) layer-list),
+    q ∙ ap (λ (x : List ℕ). tally x counts) layer-list,
+  )

@@ -6,6 +6,7 @@ pub mod flat;
 pub mod judge;
 pub mod kind;
 pub mod layer_rules;
+pub mod layered;
 pub mod layout;
 pub mod records;
 pub mod running;
