@@ -1,6 +1,7 @@
 // The image of document 01: its bytes as records, and whether it is one.
 pub mod answer;
 pub mod bytes;
+pub mod check;
 pub mod faults;
 pub mod flat;
 pub mod judge;

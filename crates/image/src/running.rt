@@ -13,6 +13,6 @@ pub enum Judged {
 
 // The first record at fault stands at a place, or there is none.
 pub enum Walked {
-    At(usize),
+    At(u32),
     Clean(Running),
 }

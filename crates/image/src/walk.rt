@@ -20,7 +20,7 @@ fn walk_section(s: &[u8], c: Counts, at: usize, x: Section, from: Running) -> Wa
     let mut r = from;
     while left != 0 {
         match judge(x, s, c, at, p, r) {
-            Judged::Fault => return Walked::At(p),
+            Judged::Fault => return Walked::At(p as u32),
             Judged::Next(next) => {
                 r = next;
             }

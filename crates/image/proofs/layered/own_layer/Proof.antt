@@ -40,14 +40,19 @@ tally-run-requires c κs =
     let r = c .before .before in
     let args = start r .args in
     let accepted = start r .pre .0 in
-    let facts = accepted .layers (args .l) (start r .pre .1) in
-    (accepted .sized,
-      (omega arith,
-        (subst (λ (x : LayerRecord). x .stages .first + x .stages .count ≤ args .c .refs) (sym (r .read .ensures)) (facts .fits),
+    let facts = accepted .layers (args .l) (start r .pre .1) in (
+      accepted .sized,
+      (
+        omega arith,
+        (
+          subst (λ (x : LayerRecord). x .stages .first + x .stages .count ≤ args .c .refs) (sym (r .read .ensures)) (facts .fits),
           subst
-          (λ (x : LayerRecord). (k : ℕ) → x .stages .first ≤ k → k < x .stages .first + x .stages .count → NamedOrNone (u16At (args .s .now) (refsAt (args .c) + 2 * k)) (args .c .stages))
-          (sym (r .read .ensures))
-          (entries-named (args .s .now) (args .c) (layerAt (args .s .now) (21 + 6 * args .l) .stages) (args .c .stages) (λ k h n. facts .named k h)))))
+              (λ (x : LayerRecord). (k : ℕ) → x .stages .first ≤ k → k < x .stages .first + x .stages .count → NamedOrNone (u16At (args .s .now) (refsAt (args .c) + 2 * k)) (args .c .stages))
+              (sym (r .read .ensures))
+              (entries-named (args .s .now) (args .c) (layerAt (args .s .now) (21 + 6 * args .l) .stages) (args .c .stages) (λ k h n. facts .named k h)),
+        ),
+      ),
+    )
 
 -- src/layered.rt:17:1
 returns : tie.Need-returns
@@ -56,7 +61,7 @@ returns c =
     let args = start r .args in
     layer-adds (args .s .now) (args .c) (start r .pre .0) (args .l) (start r .pre .1) (args .ok) (args .counts .now)
     (c .tally-run .ensures .0
-      ∙ ap (λ (x : LayerRecord). all (fieldIs (args .s .now) (args .c) 6 (args .l)) (present (refsFrom (args .s .now) (args .c) (x .stages)))) (r .read .ensures))
+    ∙ ap (λ (x : LayerRecord). all (fieldIs (args .s .now) (args .c) 6 (args .l)) (present (refsFrom (args .s .now) (args .c) (x .stages)))) (r .read .ensures))
     (c .tally-run .ensures .1 ∙ ap (λ (x : LayerRecord). tally (present (refsFrom (args .s .now) (args .c) (x .stages))) (args .counts .now)) (r .read .ensures))
 
 pub own-layer-spec : {M : Type 1} → statement M

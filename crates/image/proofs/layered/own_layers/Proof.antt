@@ -51,10 +51,11 @@ loop-again : tie.Need-loop-again Inv-loop μ-loop
 loop-again c =
     let loop = c .before .before .before .loop in
     let args = c .before .before .before .before .before .args in
-    let more : loop .l < args .c .layers = c .before .before .loop-test .taken in
-    (loop .inv .0,
+    let more : loop .l < args .c .layers = c .before .before .loop-test .taken in (
+      loop .inv .0,
       owning-on (loop .inv .1) (record { parent = none; stages = [] }) (omega (arith, more, length-layers (args .s .now) (args .c)))
-      (c .own-layer .ensures .0) (c .own-layer .ensures .1))
+          (c .own-layer .ensures .0) (c .own-layer .ensures .1),
+    )
 
 -- src/layered.rt:29:1
 returns : tie.Need-returns Inv-loop μ-loop

@@ -35,6 +35,11 @@ judge-requires c κs =
 enum-told : tie.Need-enum-told Inv-loop μ-loop
 enum-told c = search needs
 
+cast-t13 : tie.Need-cast-t13 Inv-loop μ-loop
+cast-t13 c =
+    let z = c .before .before .before .before .before .before .before .before .before .pre .1 in
+    omega (arith, z, walking-room (c .before .before .before .before .loop .inv .1) (c .before .before .before .loop-test .taken))
+
 returns : tie.Need-returns Inv-loop μ-loop
 returns c = walking-fault (c .before .before .before .before .loop .inv .1) (c .before .before .before .loop-test .taken) (sym (c .before .before .judge .ensures) ∙ c .enum-told .given .1)
 
@@ -70,6 +75,7 @@ walk-section-spec =
     loop-holds
     judge-requires
     enum-told
+    cast-t13
     returns
     enum-known-next
     add-p
