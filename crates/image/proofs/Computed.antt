@@ -15,8 +15,8 @@ use Rattle.image.specs.Check.{checkOf}
 use Rattle.image.specs.Encode.{layersBytes, interfacesBytes, stagesBytes, actionsBytes, encode}
 use Rattle.image.specs.Faults.{layerGood, interfaceGood, stageGood}
 use Rattle.image.specs.Judge.{walk, walkAll}
-use Rattle.image.specs.Kind.{all, concat, occurrences, present}
-use Rattle.image.specs.LayerRules.{within}
+use Rattle.image.specs.Kind.{all, concat, occurrences, present, kindOfVir}
+use Rattle.image.specs.LayerRules.{within, layerRules}
 use Rattle.image.specs.View.{collect, viewOf, view}
 
 -- one interface on stage 0, which declares local 0 and has the steps Barrier and Read
@@ -42,7 +42,7 @@ loop =
 
 -- code, place and kind
 answer : List ℕ → List ℕ
-unfolding checkOf walk walkAll u16At u32At every layerGood interfaceGood stageGood headerOf kindOf portOf stepOf collect viewOf all concat occurrences present within
+unfolding checkOf walk walkAll u16At u32At every layerGood interfaceGood stageGood headerOf kindOf portOf stepOf collect viewOf all concat occurrences present within kindOfVir layerRules
 answer s = checkOf s .code ∷ checkOf s .place ∷ checkOf s .kind ∷ []
 
 -- read and written out again

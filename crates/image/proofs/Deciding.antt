@@ -27,6 +27,7 @@ module _ (s : List ℕ) (c : Counts) where
   v = viewOf s c
 
   pub kind-unowned : listedByOwn v ≡ false → 0 ≡ kindOfVir v
+  unfolding kindOfVir
   kind-unowned h = sym (ap (λ (a : Bool). kindBy a (listed v) (layered v) (flat v)) h)
 
   -- counted as the code counts
@@ -39,15 +40,18 @@ module _ (s : List ℕ) (c : Counts) where
 
   module _ (own : listedByOwn v ≡ true) where
     pub kind-unlisted : listed v ≡ false → 0 ≡ kindOfVir v
+    unfolding kindOfVir
     kind-unlisted h = sym (λ i. kindBy (own i) (h i) (layered v) (flat v))
 
     module _ (list : listed v ≡ true) where
       pub kind-layered : (c .layers ≡ 0 → ⊥) → 2 ≡ kindOfVir v
+      unfolding kindOfVir
       kind-layered h =
           let lay : layered v ≡ true = lt-ltb 0 (length (v .layers)) (omega (arith, length-layers s c)) in
           sym (λ i. kindBy (own i) (list i) (lay i) (flat v))
 
       pub kind-flat : {b : Bool} → c .layers ≡ 0 → b ≡ every (length (v .stages)) (λ t. eqb (stageOf v t .transfer) none) → cond b 1 0 ≡ kindOfVir v
+      unfolding kindOfVir
       kind-flat {b} h e =
           let lay : layered v ≡ false = le-ltb 0 (length (v .layers)) (omega (arith, length-layers s c)) in
           let bare : eqb (length (v .layers)) 0 ≡ true = eq-eqb (length (v .layers)) 0 (length-layers s c ∙ h) in

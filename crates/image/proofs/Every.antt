@@ -47,3 +47,8 @@ pub every-cong : (f g : ℕ → Bool) (n : ℕ) → ((k : ℕ) → k < n → f k
 unfolding every
 every-cong f g zero h = refl
 every-cong f g (suc n) h = ap₂ _&&_ (every-cong f g n (λ k l. h k (omega arith))) (h n (omega arith))
+
+-- one more, whatever it answers
+pub every-next : (f : ℕ → Bool) (i : ℕ) {ok ok′ : Bool} → ok ≡ every i f → ok′ ≡ (ok && f i) → ok′ ≡ every (i + 1) f
+unfolding every
+every-next f i h t = t ∙ ap (λ (b : Bool). b && f i) h ∙ sym (ap (λ (n : ℕ). every n f) (add-one i))

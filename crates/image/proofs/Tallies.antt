@@ -122,7 +122,7 @@ zeros = replicate 256 0
 
 -- counted from nothing
 module _ (n : ℕ) (ts : List ℕ) (room : n ≤ 256) where
-  from-nothing : (t : ℕ) → t < n → getD (tally ts zeros) t 0 ≡ min 2 (occurrences t ts)
+  pub from-nothing : (t : ℕ) → t < n → getD (tally ts zeros) t 0 ≡ min 2 (occurrences t ts)
   from-nothing t h =
       let fits : t < 256 = omega arith in
       let empty : getD zeros t 0 ≡ 0 = getD-replicate 256 t 0 0 fits in

@@ -56,5 +56,5 @@ abbrev pub layered : Vir → Bool
 layered v = ltb 0 (length (v .layers))
 
 -- 1 flat, 2 layered, 0 neither
-abbrev pub kindOfVir : Vir → ℕ
+unfoldable pub kindOfVir : Vir → ℕ
 kindOfVir v = cond (listedByOwn v && listed v) (cond (layered v) 2 (cond (flat v) 1 0)) 0

@@ -94,7 +94,7 @@ abbrev pub divergesOut : Vir → Bool
 divergesOut v =
     every (length (v .stages)) (λ t. all (within v (length (v .layers)) (stageOf v t .layer)) (targets (stageOf v t)))
 
-abbrev pub layerRules : Vir → Bool
+unfoldable pub layerRules : Vir → Bool
 layerRules v =
     parentsBelow v
     && listedByOwnLayer v

@@ -2,6 +2,7 @@ pub mod Accepted
 pub mod Bytes
 pub mod Check
 pub mod Encode
+pub mod Entering
 pub mod Every
 pub mod Faults
 pub mod Judge

@@ -1,4 +1,5 @@
-// What a call of check answers: a code, a place and the kind.
+// What check answers.
+#[repr(C)]
 pub struct Answer {
     pub code: u32,
     pub place: u32,

@@ -1,15 +1,27 @@
 // Every image, of whatever bytes and length, gets one answer.
 ghost use mathlib.Core.Path.{_≡_};
-ghost use Prim.Native.Nat.{_≤_};
-ghost use lib.ListN.{length};
-ghost use Rattle.image.specs.Check.{refused, marked, owned, recordAnswer, checkOf};
+ghost use mathlib.Core.List.{List};
+ghost use Prim.Native.Nat.{ℕ, _≤_, _<_};
+ghost use lib.ListN.{length, take};
+ghost use Rattle.image.specs.Check.{refused, marked, owned, kindAnswer, recordAnswer, checkOf};
+ghost use Rattle.image.specs.Accepted.{Accepted};
+ghost use Rattle.image.specs.LayerRules.{layerRules};
+ghost use Rattle.image.specs.View.{viewOf};
 ghost use Rattle.image.specs.Judge.{walkAll};
 ghost use Rattle.image.specs.Layout.{sections, Sized};
 use crate::answer::Answer;
 use crate::bytes::u16_at;
+use crate::entering::diverges_out;
+use crate::entering::enter_all;
+use crate::entering::entered_once;
+use crate::kind::kind;
+use crate::layer_rules::interfaces_lie;
+use crate::layer_rules::parents_below;
+use crate::layered::own_layers;
 use crate::layout::Counts;
 use crate::running::Running;
 use crate::running::Walked;
+use crate::tally::counted;
 use crate::walk::walk;
 
 fn refused(code: u32, place: u32) -> Answer
@@ -33,4 +45,107 @@ fn owned(c: Counts, r: Running) -> bool
     ensures { λ b. ⌜ b ≡ owned c r ⌝ }
 {
     (r.refs == c.refs) & (r.steps == c.steps) & (r.ports == c.ports)
+}
+
+fn layer_rules(s: &[u8], c: Counts) -> bool
+    requires { ⌜ Accepted (now s) c ⌝ }
+    ensures { λ r. ⌜ r ≡ layerRules (viewOf (now (s .entry)) c) ⌝ }
+{
+    if !parents_below(s, c) {
+        return false;
+    }
+    let mut counts = [0u8; 256];
+    if !own_layers(s, c, &mut counts) {
+        return false;
+    }
+    if !counted(&counts, c.stages, 1) {
+        return false;
+    }
+    if !interfaces_lie(s, c) {
+        return false;
+    }
+    let mut entered = [0u8; 256];
+    if !enter_all(s, c, &mut entered) {
+        return false;
+    }
+    if !entered_once(s, c, &entered) {
+        return false;
+    }
+    diverges_out(s, c)
+}
+
+// 7 kind, 8 layers.
+fn judge_kind(s: &[u8], c: Counts) -> Answer
+    requires { ⌜ Accepted (now s) c ⌝ }
+    ensures { λ r. ⌜ r ≡ kindAnswer (viewOf (now (s .entry)) c) ⌝ }
+{
+    let found = kind(s, c);
+    if found == 0 {
+        return refused(7, 0);
+    }
+    if found == 1 {
+        return Answer {
+            code: 0,
+            place: 0,
+            kind: 1,
+        };
+    }
+    if !layer_rules(s, c) {
+        return refused(8, 0);
+    }
+    Answer {
+        code: 0,
+        place: 0,
+        kind: 2,
+    }
+}
+
+// 6 record.
+fn judge_records(s: &[u8], c: Counts) -> Answer
+    requires { ⌜ Sized (now s) c ⌝ }
+    ensures { λ r. ⌜ r ≡ recordAnswer (now (s .entry)) c
+        (walkAll (now (s .entry)) c sections (record { refs = 0; steps = 0; ports = 0 })) ⌝ }
+{
+    match walk(s, c) {
+        Walked::At(p) => refused(6, p),
+        Walked::Clean(r) => {
+            if !owned(c, r) {
+                return refused(6, s.len() as u32);
+            }
+            judge_kind(s, c)
+        }
+    }
+}
+
+pub fn check(s: &[u8]) -> Answer
+    ensures { λ r. ⌜ r ≡ checkOf (now (s .entry)) ⌝ }
+{
+    if s.len() < 21 {
+        return refused(2, 0);
+    }
+    if !marked(s) {
+        return refused(3, 0);
+    }
+    let c = Counts::read(s);
+    if !c.within() {
+        return refused(4, 0);
+    }
+    if s.len() != c.length() {
+        return refused(5, 0);
+    }
+    judge_records(s, c)
+}
+
+// An image that is longer than the largest, by its first bytes alone: nothing needs the rest.
+pub fn check_long(head: &[u8]) -> Answer
+    requires { ⌜ 21 ≤ length (now head) ⌝ }
+    ensures { λ r. ⌜ ((s : List ℕ) → take 21 s ≡ take 21 (now (head .entry)) → 63893 < length s → r ≡ checkOf s) ⌝ }
+{
+    if !marked(head) {
+        return refused(3, 0);
+    }
+    if !Counts::read(head).within() {
+        return refused(4, 0);
+    }
+    refused(5, 0)
 }

@@ -2,6 +2,7 @@
 pub mod answer;
 pub mod bytes;
 pub mod check;
+pub mod entering;
 pub mod faults;
 pub mod flat;
 pub mod judge;

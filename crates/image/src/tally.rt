@@ -13,7 +13,7 @@ use crate::bytes::u16_at;
 use crate::layout::Counts;
 use crate::records::Run;
 
-fn bump(n: u8) -> u8
+pub fn bump(n: u8) -> u8
     ensures { λ r. ⌜ r ≡ bump n ⌝ }
 {
     if n < 2 { n + 1 } else { n }

@@ -1,27 +1,19 @@
 use borrow.Author.Needs.{needs}
 use Rattle.image.proofs.check.marked.Statement.{statement}
 use Rattle.image.proofs.check.marked.Tie as tie
-use Rattle.image.proofs.check.marked.Reads as reads
-use Rattle.image.proofs.check.marked.Lts as lts
-use Rattle.image.proofs.bytes.u16_at.Reads as u16-at-reads
 
--- src/check.rt:29:6
 shared-slice-read-result : tie.Need-shared-slice-read-result
 shared-slice-read-result c = search needs
 
--- src/check.rt:29:21
 shared-slice-read-result-2 : tie.Need-shared-slice-read-result-2
 shared-slice-read-result-2 c = search needs
 
--- src/check.rt:29:36
 shared-slice-read-result-3 : tie.Need-shared-slice-read-result-3
 shared-slice-read-result-3 c = search needs
 
--- src/check.rt:29:51
 u16-at-requires : tie.Need-u16-at-requires
 u16-at-requires c κs = search needs
 
--- src/check.rt:25:1
 returns : tie.Need-returns
 returns c = cc
 

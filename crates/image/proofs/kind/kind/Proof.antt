@@ -7,13 +7,7 @@ use Rattle.image.proofs.Deciding.{kind-unowned, listed-counted, kind-un
 use borrow.Author.Needs.{needs}
 use Rattle.image.proofs.kind.kind.Statement.{statement}
 use Rattle.image.proofs.kind.kind.Tie as tie
-use Rattle.image.proofs.kind.kind.Reads as reads
-use Rattle.image.proofs.kind.kind.Lts as lts
-use Rattle.image.proofs.flat.transfers_none.Reads as transfers-none-reads
-use Rattle.image.proofs.kind.own_interfaces.Reads as own-interfaces-reads
-use Rattle.image.proofs.tally.counted.Reads as counted-reads
 
--- src/kind.rt:54:9
 own-interfaces-requires : tie.Need-own-interfaces-requires
 own-interfaces-requires c κs = search needs
 
@@ -38,18 +32,15 @@ returns c =
     let o = c .before in
     kind-unowned (start o .args .s .now) (start o .args .c) (own o false (not-true _ (c .if1 .taken)))
 
--- src/kind.rt:57:9
 counted-requires : tie.Need-counted-requires
 counted-requires c κs = search needs
 
--- src/kind.rt:58:9
 returns-2 : tie.Need-returns-2
 returns-2 c =
     let o = owned (c .before) in
     kind-unlisted (start o .args .s .now) (start o .args .c) (own o true (not-false _ (c .before .before .before .if1 .left)))
     (list (c .before) false (not-true _ (c .if2 .taken)))
 
--- src/kind.rt:61:9
 returns-3 : tie.Need-returns-3
 returns-3 c =
     let k = c .before .before .before in
@@ -59,11 +50,9 @@ returns-3 c =
     let list-true = list k true (not-false _ (c .before .before .if2 .left)) in
     kind-layered (args .s .now) (args .c) own-true list-true (c .if3 .taken)
 
--- src/kind.rt:63:8
 transfers-none-requires : tie.Need-transfers-none-requires
 transfers-none-requires c κs = search needs
 
--- src/kind.rt:49:1
 returns-4 : tie.Need-returns-4
 returns-4 c =
     let k = c .before .before .before .before .before in
@@ -74,7 +63,6 @@ returns-4 c =
     ap (λ (b : Bool). cond b 1 0) (sym (c .if4 .taken))
     ∙ kind-flat (args .s .now) (args .c) own-true list-true (c .before .before .if3 .left) (c .before .transfers-none .ensures)
 
--- src/kind.rt:49:1
 returns-5 : tie.Need-returns-5
 returns-5 c =
     let k = c .before .before .before .before .before in

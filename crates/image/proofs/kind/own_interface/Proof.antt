@@ -14,25 +14,16 @@ use Rattle.image.proofs.Owning.{entries-named}
 use borrow.Author.Needs.{needs}
 use Rattle.image.proofs.kind.own_interface.Statement.{statement}
 use Rattle.image.proofs.kind.own_interface.Tie as tie
-use Rattle.image.proofs.kind.own_interface.Reads as reads
-use Rattle.image.proofs.kind.own_interface.Lts as lts
-use Rattle.image.proofs.layout.Counts.interfaces_at.Reads as interfaces-at-reads
-use Rattle.image.proofs.records.InterfaceRecord.read.Reads as read-reads
-use Rattle.image.proofs.tally.tally_run.Reads as tally-run-reads
 
--- src/kind.rt:23:43
 interfaces-at-requires : tie.Need-interfaces-at-requires
 interfaces-at-requires c κs = search needs
 
--- src/kind.rt:23:63
 mul-read : tie.Need-mul-read
 mul-read c = search needs
 
--- src/kind.rt:23:43
 add-read : tie.Need-add-read
 add-read c = search needs
 
--- src/kind.rt:23:9
 read-requires : tie.Need-read-requires
 read-requires c κs = search needs
 
@@ -56,7 +47,6 @@ returns c =
     inspect-adds (args .s .now) (args .c) (start r .pre .0) (args .i) (start r .pre .1) (args .ok) (args .counts .now)
     (sym (ap (λ (x : InterfaceRecord). x .kind) (same r)) ∙ c .if1 .taken)
 
--- src/kind.rt:28:10
 tally-run-requires : tie.Need-tally-run-requires
 tally-run-requires c κs =
     let r = c .before .before .before .before in
@@ -77,7 +67,6 @@ tally-run-requires c κs =
       ),
     )
 
--- src/kind.rt:16:1
 returns-2 : tie.Need-returns-2
 returns-2 c =
     let r = c .before .before .before .before .before in

@@ -16,9 +16,6 @@ use Rattle.image.proofs.Owning.{Owning, owning-start, owning-on, owning
 use Rattle.image.proofs.Viewing.{length-interfaces}
 use Rattle.image.proofs.kind.own_interfaces.Statement.{statement}
 use Rattle.image.proofs.kind.own_interfaces.Tie as tie
-use Rattle.image.proofs.kind.own_interfaces.Reads as reads
-use Rattle.image.proofs.kind.own_interfaces.Lts as lts
-use Rattle.image.proofs.kind.own_interface.Reads as own-interface-reads
 
 abbrev owned : List ℕ → Counts → ℕ → Bool
 owned s c i = all (λ t. eqb (stageOf (viewOf s c) t .interface) i) (stagesOf (interfaceOf (viewOf s c) i))
@@ -31,23 +28,18 @@ Inv-loop s c counts₀ n i₀ ok₀ counts i ok =
 abbrev μ-loop : tie.MeasureT-loop
 μ-loop s c counts₀ n i₀ ok₀ counts i ok = n - i
 
--- src/kind.rt:39:5
 loop-holds : tie.Need-loop-holds Inv-loop μ-loop
 loop-holds c = (refl, owning-start _ _ _ _)
 
--- src/kind.rt:40:9
 own-interface-requires : tie.Need-own-interface-requires Inv-loop μ-loop
 own-interface-requires c κs = (c .before .before .before .before .pre, search needs)
 
--- src/kind.rt:41:9
 add-i : tie.Need-add-i Inv-loop μ-loop
 add-i c = search needs
 
--- src/kind.rt:39:5
 loop-less : tie.Need-loop-less Inv-loop μ-loop
 loop-less c = search needs
 
--- src/kind.rt:39:5
 loop-again : tie.Need-loop-again Inv-loop μ-loop
 loop-again c =
     let loop = c .before .before .before .loop in
@@ -59,7 +51,6 @@ loop-again c =
           (c .own-interface .ensures .0) (c .own-interface .ensures .1),
     )
 
--- src/kind.rt:31:1
 returns : tie.Need-returns Inv-loop μ-loop
 returns c =
     let args = c .before .before .before .args in

@@ -1,4 +1,4 @@
-use mathlib.Core.Path.{_≡_, _∙_, sym, ap, subst}
+use mathlib.Core.Path.{_∙_, sym, ap, subst}
 use Prim.Native.Nat.{ℕ, _+_, _*_, _≤_, _<_}
 use native.Mathlib.Omega.{arith}
 use Rattle.image.specs.declared.records.LayerRecord.{LayerRecord}
@@ -14,20 +14,13 @@ use Rattle.image.proofs.Owning.{entries-named}
 use borrow.Author.Needs.{needs}
 use Rattle.image.proofs.layered.own_layer.Statement.{statement}
 use Rattle.image.proofs.layered.own_layer.Tie as tie
-use Rattle.image.proofs.layered.own_layer.Reads as reads
-use Rattle.image.proofs.layered.own_layer.Lts as lts
-use Rattle.image.proofs.records.LayerRecord.read.Reads as read-reads
-use Rattle.image.proofs.tally.tally_run.Reads as tally-run-reads
 
--- src/layered.rt:24:44
 mul-read : tie.Need-mul-read
 mul-read c = search needs
 
--- src/layered.rt:24:39
 add-read : tie.Need-add-read
 add-read c = search needs
 
--- src/layered.rt:24:9
 read-requires : tie.Need-read-requires
 read-requires c κs = search needs
 
@@ -54,7 +47,6 @@ tally-run-requires c κs =
       ),
     )
 
--- src/layered.rt:17:1
 returns : tie.Need-returns
 returns c =
     let r = c .before .before .before in

@@ -15,9 +15,6 @@ use Rattle.image.proofs.Owning.{Owning, owning-start, owning-on, owning
 use Rattle.image.proofs.Viewing.{length-layers}
 use Rattle.image.proofs.layered.own_layers.Statement.{statement}
 use Rattle.image.proofs.layered.own_layers.Tie as tie
-use Rattle.image.proofs.layered.own_layers.Reads as reads
-use Rattle.image.proofs.layered.own_layers.Lts as lts
-use Rattle.image.proofs.layered.own_layer.Reads as own-layer-reads
 
 abbrev owned : List ℕ → Counts → ℕ → Bool
 owned s c l = all (λ t. eqb (stageOf (viewOf s c) t .layer) l) (layerOf (viewOf s c) l .stages)
@@ -30,23 +27,18 @@ Inv-loop s c counts₀ n l₀ ok₀ counts l ok =
 abbrev μ-loop : tie.MeasureT-loop
 μ-loop s c counts₀ n l₀ ok₀ counts l ok = n - l
 
--- src/layered.rt:37:5
 loop-holds : tie.Need-loop-holds Inv-loop μ-loop
 loop-holds c = (refl, owning-start _ _ _ _)
 
--- src/layered.rt:38:9
 own-layer-requires : tie.Need-own-layer-requires Inv-loop μ-loop
 own-layer-requires c κs = (c .before .before .before .before .pre, search needs)
 
--- src/layered.rt:39:9
 add-l : tie.Need-add-l Inv-loop μ-loop
 add-l c = search needs
 
--- src/layered.rt:37:5
 loop-less : tie.Need-loop-less Inv-loop μ-loop
 loop-less c = search needs
 
--- src/layered.rt:37:5
 loop-again : tie.Need-loop-again Inv-loop μ-loop
 loop-again c =
     let loop = c .before .before .before .loop in
@@ -57,7 +49,6 @@ loop-again c =
           (c .own-layer .ensures .0) (c .own-layer .ensures .1),
     )
 
--- src/layered.rt:29:1
 returns : tie.Need-returns Inv-loop μ-loop
 returns c =
     let args = c .before .before .before .args in

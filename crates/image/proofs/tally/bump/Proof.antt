@@ -2,18 +2,13 @@ use borrow.Author.Tests.{lt-ltb, le-ltb}
 use borrow.Author.Needs.{needs}
 use Rattle.image.proofs.tally.bump.Statement.{statement}
 use Rattle.image.proofs.tally.bump.Tie as tie
-use Rattle.image.proofs.tally.bump.Reads as reads
-use Rattle.image.proofs.tally.bump.Lts as lts
 
--- src/tally.rt:18:16
 add-result : tie.Need-add-result
 add-result c = search needs
 
--- src/tally.rt:15:1
 returns : tie.Need-returns
 returns c = simp (lt-ltb _ _ (c .if1 .taken))
 
--- src/tally.rt:15:1
 returns-2 : tie.Need-returns-2
 returns-2 c = simp (le-ltb _ _ (c .if1 .left))
 

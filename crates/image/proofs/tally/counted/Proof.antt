@@ -8,8 +8,6 @@ use Rattle.image.specs.Tally.{countedAt}
 use Rattle.image.proofs.Every.{every-zero, every-on, every-stop, every-end}
 use Rattle.image.proofs.tally.counted.Statement.{statement}
 use Rattle.image.proofs.tally.counted.Tie as tie
-use Rattle.image.proofs.tally.counted.Reads as reads
-use Rattle.image.proofs.tally.counted.Lts as lts
 
 abbrev Inv-loop : tie.InvT-loop
 Inv-loop counts n most i₀ i = (i ≤ n) × (every i (countedAt counts most) ≡ true)
@@ -17,39 +15,31 @@ Inv-loop counts n most i₀ i = (i ≤ n) × (every i (countedAt counts most) �
 abbrev μ-loop : tie.MeasureT-loop
 μ-loop counts n most i₀ i = n - i
 
--- src/tally.rt:93:5
 loop-holds : tie.Need-loop-holds Inv-loop μ-loop
 loop-holds c = (search needs, every-zero _)
 
--- src/tally.rt:94:17
 cast-t : tie.Need-cast-t Inv-loop μ-loop
 cast-t c = search needs
 
--- src/tally.rt:95:17
 element-copy-out-k : tie.Need-element-copy-out-k Inv-loop μ-loop
 element-copy-out-k c = search needs
 
--- src/tally.rt:97:13
 returns : tie.Need-returns Inv-loop μ-loop
 returns c =
     let args = c .before .before .before .before .args in
     sym (every-stop (countedAt (args .counts .now) (args .most)) (args .n) (c .before .before .before .loop .i) (search needs) (not-true _ (c .if1 .taken)))
 
--- src/tally.rt:99:9
 add-i : tie.Need-add-i Inv-loop μ-loop
 add-i c = search needs
 
--- src/tally.rt:93:5
 loop-less : tie.Need-loop-less Inv-loop μ-loop
 loop-less c = search needs
 
--- src/tally.rt:93:5
 loop-again : tie.Need-loop-again Inv-loop μ-loop
 loop-again c =
     let args = c .before .before .before .before .args in
     (search needs, every-on (countedAt (args .counts .now) (args .most)) (c .before .before .before .loop .i) (c .before .before .before .loop .inv .1) (not-false _ (c .if1 .left)))
 
--- src/tally.rt:88:1
 returns-2 : tie.Need-returns-2 Inv-loop μ-loop
 returns-2 c =
     let args = c .before .before .args in

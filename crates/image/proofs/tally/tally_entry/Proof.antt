@@ -2,23 +2,17 @@ use Rattle.image.specs.Tally.{fieldIs}
 use Rattle.image.proofs.Tallies.{entry-none, entry-some}
 use Rattle.image.proofs.tally.tally_entry.Statement.{statement}
 use Rattle.image.proofs.tally.tally_entry.Tie as tie
-use Rattle.image.proofs.tally.tally_entry.Reads as reads
-use Rattle.image.proofs.tally.tally_entry.Lts as lts
-use Rattle.image.proofs.tally.tally_stage.Reads as tally-stage-reads
 
--- src/tally.rt:51:9
 returns : tie.Need-returns
 returns c =
     let start = c .before .before .args in
     entry-none (fieldIs (start .s .now) (start .c) (start .f) (start .owner)) (start .e) (start .ok) (start .counts .now) (c .if1 .taken)
 
--- src/tally.rt:53:10
 tally-stage-requires : tie.Need-tally-stage-requires
 tally-stage-requires c κs =
     let pre = c .before .before .before .pre in
     (pre .0, (pre .1 .0, pre .1 .1 (c .before .if1 .left)))
 
--- src/tally.rt:35:1
 returns-2 : tie.Need-returns-2
 returns-2 c =
     let start = c .before .before .before .before .args in

@@ -13,11 +13,6 @@ use Rattle.image.specs.View.{collect}
 use Rattle.image.proofs.Tallies.{Tallying, tallying-start, tallying-on, tallying-end}
 use Rattle.image.proofs.tally.tally_run.Statement.{statement}
 use Rattle.image.proofs.tally.tally_run.Tie as tie
-use Rattle.image.proofs.tally.tally_run.Reads as reads
-use Rattle.image.proofs.tally.tally_run.Lts as lts
-use Rattle.image.proofs.bytes.u16_at.Reads as u16-at-reads
-use Rattle.image.proofs.layout.Counts.refs_at.Reads as refs-at-reads
-use Rattle.image.proofs.tally.tally_entry.Reads as tally-entry-reads
 
 abbrev entry : List ℕ → Counts → ℕ → ℕ
 entry s c k = u16At s (refsAt c + 2 * k)
@@ -31,27 +26,21 @@ Inv-loop s c f owner counts₀ at k₀ left₀ ok₀ counts k left ok =
 abbrev μ-loop : tie.MeasureT-loop
 μ-loop s c f owner counts₀ at k₀ left₀ ok₀ counts k left ok = left
 
--- src/tally.rt:73:9
 refs-at-requires : tie.Need-refs-at-requires Inv-loop μ-loop
 refs-at-requires c κs = search needs
 
--- src/tally.rt:74:17
 cast-k : tie.Need-cast-k Inv-loop μ-loop
 cast-k c = search needs
 
--- src/tally.rt:77:5
 loop-holds : tie.Need-loop-holds Inv-loop μ-loop
 loop-holds c = (c .before .refs-at .ensures, omega arith, refl, tallying-start _ _ _ _ _)
 
--- src/tally.rt:78:32
 mul-u16-at : tie.Need-mul-u16-at Inv-loop μ-loop
 mul-u16-at c = search needs
 
--- src/tally.rt:78:27
 add-u16-at : tie.Need-add-u16-at Inv-loop μ-loop
 add-u16-at c = search needs
 
--- src/tally.rt:78:13
 u16-at-requires : tie.Need-u16-at-requires Inv-loop μ-loop
 u16-at-requires c κs = search needs
 
@@ -78,19 +67,15 @@ tally-entry-requires c κs =
     let pre = start (c .before) .pre in
     (pre .0, (pre .1 .0, named (c .before)))
 
--- src/tally.rt:80:9
 add-k : tie.Need-add-k Inv-loop μ-loop
 add-k c = search needs
 
--- src/tally.rt:81:9
 sub-left : tie.Need-sub-left Inv-loop μ-loop
 sub-left c = search needs
 
--- src/tally.rt:77:5
 loop-less : tie.Need-loop-less Inv-loop μ-loop
 loop-less c = search needs
 
--- src/tally.rt:77:5
 loop-again : tie.Need-loop-again Inv-loop μ-loop
 loop-again c =
     let u = c .before .before in
@@ -105,7 +90,6 @@ loop-again c =
           (c .tally-entry .ensures .1 ∙ ap (λ (e : ℕ). tallyEntry e (loop .counts)) (read u)),
     )
 
--- src/tally.rt:57:1
 returns : tie.Need-returns Inv-loop μ-loop
 returns c = tallying-end (c .before .loop .inv .3) (c .loop-test .left)
 

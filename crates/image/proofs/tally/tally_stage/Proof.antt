@@ -6,45 +6,31 @@ use Rattle.image.specs.Bytes.{u16At}
 use borrow.Author.Needs.{needs}
 use Rattle.image.proofs.tally.tally_stage.Statement.{statement}
 use Rattle.image.proofs.tally.tally_stage.Tie as tie
-use Rattle.image.proofs.tally.tally_stage.Reads as reads
-use Rattle.image.proofs.tally.tally_stage.Lts as lts
-use Rattle.image.proofs.bytes.u16_at.Reads as u16-at-reads
-use Rattle.image.proofs.layout.Counts.stages_at.Reads as stages-at-reads
-use Rattle.image.proofs.tally.bump.Reads as bump-reads
 
--- src/tally.rt:30:22
 element-copy-out-bump : tie.Need-element-copy-out-bump
 element-copy-out-bump c = search needs
 
--- src/tally.rt:30:17
 bump-requires : tie.Need-bump-requires
 bump-requires c κs = search needs
 
--- src/tally.rt:30:5
 element-write-counts : tie.Need-element-write-counts
 element-write-counts c = search needs
 
--- src/tally.rt:31:15
 stages-at-requires : tie.Need-stages-at-requires
 stages-at-requires c κs = search needs
 
--- src/tally.rt:31:31
 mul-u16-at : tie.Need-mul-u16-at
 mul-u16-at c = search needs
 
--- src/tally.rt:31:15
 add-u16-at : tie.Need-add-u16-at
 add-u16-at c = search needs
 
--- src/tally.rt:31:15
 add-u16-at-2 : tie.Need-add-u16-at-2
 add-u16-at-2 c = search needs
 
--- src/tally.rt:31:5
 u16-at-requires : tie.Need-u16-at-requires
 u16-at-requires c κs = search needs
 
--- src/tally.rt:22:1
 returns : tie.Need-returns
 returns c =
     let start = c .before .before .before .before .before .args in (

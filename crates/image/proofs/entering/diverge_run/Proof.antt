@@ -1,0 +1,67 @@
+use mathlib.Core.Path.{_≡_, refl}
+use mathlib.Core.Bool.{_&&_}
+use Prim.Native.Nat.{_+_, _<_}
+use native.Mathlib.Omega.{arith}
+use borrow.Author.Needs.{needs}
+use Rattle.image.specs.Entering.{actionAt, divergesOf, liesIn}
+use Rattle.image.specs.Kind.{all, concat}
+use Rattle.image.specs.View.{collect, viewOf}
+use Rattle.image.proofs.Passing.{Passing, passing-start, passing-on, passing-end}
+use Rattle.image.proofs.entering.diverge_run.Statement.{statement}
+use Rattle.image.proofs.entering.diverge_run.Tie as tie
+
+abbrev Inv-loop : tie.InvT-loop
+Inv-loop s c l before k₀ left₀ ok₀ k left ok =
+    (k + left ≡ k₀ + left₀)
+    × Passing (liesIn (viewOf s c) l) divergesOf (actionAt s c)
+    (before && all (liesIn (viewOf s c) l) (concat divergesOf (collect (actionAt s c) k₀ left₀))) k left ok
+
+abbrev μ-loop : tie.MeasureT-loop
+μ-loop s c l before k₀ left₀ ok₀ k left ok = left
+
+cast-k : tie.Need-cast-k Inv-loop μ-loop
+cast-k c = search needs
+
+loop-holds : tie.Need-loop-holds Inv-loop μ-loop
+loop-holds c = (refl, passing-start _ _ _ _ _ _)
+
+diverge-step-requires : tie.Need-diverge-step-requires Inv-loop μ-loop
+diverge-step-requires c κs =
+    let loop = c .before .loop in
+    let start = c .before .before .before .before in
+    let some : loop .left ≡ 0 → ⊥ = c .loop-test .taken in
+    let inside : loop .k < start .args .c .steps = omega (arith, loop .inv .0, start .pre .1 .1 .1) in
+    (start .pre .0, (start .pre .1 .0, (start .pre .1 .1 .0, inside)))
+
+add-k : tie.Need-add-k Inv-loop μ-loop
+add-k c = search needs
+
+sub-left : tie.Need-sub-left Inv-loop μ-loop
+sub-left c = search needs
+
+loop-less : tie.Need-loop-less Inv-loop μ-loop
+loop-less c = search needs
+
+loop-again : tie.Need-loop-again Inv-loop μ-loop
+loop-again c =
+    let loop = c .before .before .loop in
+    let some : loop .left ≡ 0 → ⊥ = c .before .loop-test .taken in
+    (omega (arith, loop .inv .0), passing-on (loop .inv .1) some (c .diverge-step .ensures))
+
+returns : tie.Need-returns Inv-loop μ-loop
+returns c = passing-end (c .before .loop .inv .1) (c .loop-test .left)
+
+pub diverge-run-spec : {M : Type 1} → statement M
+diverge-run-spec =
+    tie.close
+    (tie.spec
+    Inv-loop
+    μ-loop
+    cast-k
+    loop-holds
+    diverge-step-requires
+    add-k
+    sub-left
+    loop-less
+    loop-again
+    returns)

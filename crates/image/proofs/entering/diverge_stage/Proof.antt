@@ -1,0 +1,87 @@
+use mathlib.Core.Path.{_≡_, _∙_, sym, ap, subst}
+use mathlib.Core.List.{List}
+use Prim.Native.Nat.{ℕ, _+_, _*_, _<_}
+use native.Mathlib.Omega.{arith}
+use borrow.Author.Needs.{needs}
+use Rattle.image.specs.declared.layout.Counts.{Counts}
+use Rattle.image.specs.declared.records.Run.{Run}
+use Rattle.image.specs.declared.records.StageRecord.{StageRecord}
+use Rattle.image.specs.Accepted.{Inside}
+use Rattle.image.specs.Bytes.{u16At}
+use Rattle.image.specs.Layout.{stagesAt}
+use Rattle.image.specs.Records.{runAt, stageAt}
+use Rattle.image.proofs.Diverging.{layer-read, stage-diverged}
+use Rattle.image.proofs.entering.diverge_stage.Statement.{statement}
+use Rattle.image.proofs.entering.diverge_stage.Tie as tie
+
+stages-at-requires : tie.Need-stages-at-requires
+stages-at-requires c κs = search needs
+
+mul-p : tie.Need-mul-p
+mul-p c = search needs
+
+add-p : tie.Need-add-p
+add-p c = search needs
+
+add-u16-at : tie.Need-add-u16-at
+add-u16-at c = search needs
+
+u16-at-requires : tie.Need-u16-at-requires
+u16-at-requires c κs = search needs
+
+add-read : tie.Need-add-read
+add-read c = search needs
+
+read-requires : tie.Need-read-requires
+read-requires c κs = search needs
+
+module _ (c : tie.After-read) where
+  abbrev start : tie.Start
+  start = c .before .before .before .before
+
+  abbrev s : List ℕ
+  s = start .args .s .now
+
+  abbrev counts : Counts
+  counts = start .args .c
+
+  abbrev t : ℕ
+  t = start .args .t
+
+  -- the record that the stage's bytes are
+  abbrev stage : StageRecord
+  stage = stageAt s (stagesAt counts + 30 * t)
+
+  layer-is : c .before .u16-at .result ≡ stage .layer .0
+  layer-is = c .before .u16-at .ensures ∙ ap (λ (p : ℕ). u16At s (p + 30 * t + 6)) (c .before .before .stages-at .ensures)
+
+  steps-are : c .read .result ≡ stage .steps
+  steps-are = c .read .ensures ∙ ap (λ (p : ℕ). runAt s (p + 30 * t + 21)) (c .before .before .stages-at .ensures)
+
+  fit : Inside (c .read .result) (counts .steps)
+  fit = subst (λ (run : Run). Inside run (counts .steps)) (sym steps-are) (start .pre .0 .stages t (start .pre .1 .1 .0) .steps-fit)
+
+diverge-run-requires : tie.Need-diverge-run-requires
+diverge-run-requires c κs =
+    let pre = start c .pre in
+    let below : c .before .u16-at .result < counts c .layers = omega (arith, layer-is c, layer-read (s c) (counts c) (t c) (pre .1 .1 .0), pre .1 .1 .1) in
+    (pre .0, (pre .1 .0, (below, fit c)))
+
+returns : tie.Need-returns
+returns c =
+    let r = c .before in
+    stage-diverged (s r) (counts r) (t r) (start r .pre .1 .1 .0) (start r .args .ok) (layer-is r) (steps-are r) (c .diverge-run .ensures)
+
+pub diverge-stage-spec : {M : Type 1} → statement M
+diverge-stage-spec =
+    tie.close
+    (tie.spec
+    stages-at-requires
+    mul-p
+    add-p
+    add-u16-at
+    u16-at-requires
+    add-read
+    read-requires
+    diverge-run-requires
+    returns)

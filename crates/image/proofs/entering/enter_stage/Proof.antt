@@ -1,0 +1,85 @@
+use mathlib.Core.Path.{_≡_, _∙_, sym, ap, subst}
+use mathlib.Core.List.{List}
+use Prim.Native.Nat.{ℕ, _+_, _*_}
+use borrow.Author.Needs.{needs}
+use Rattle.image.specs.declared.layout.Counts.{Counts}
+use Rattle.image.specs.declared.records.Run.{Run}
+use Rattle.image.specs.declared.records.StageRecord.{StageRecord}
+use Rattle.image.specs.Accepted.{Inside}
+use Rattle.image.specs.Bytes.{u16At}
+use Rattle.image.specs.Layout.{stagesAt}
+use Rattle.image.specs.Records.{runAt, stageAt}
+use Rattle.image.proofs.Entered.{stage-entered}
+use Rattle.image.proofs.entering.enter_stage.Statement.{statement}
+use Rattle.image.proofs.entering.enter_stage.Tie as tie
+
+stages-at-requires : tie.Need-stages-at-requires
+stages-at-requires c κs = search needs
+
+mul-p : tie.Need-mul-p
+mul-p c = search needs
+
+add-p : tie.Need-add-p
+add-p c = search needs
+
+add-u16-at : tie.Need-add-u16-at
+add-u16-at c = search needs
+
+u16-at-requires : tie.Need-u16-at-requires
+u16-at-requires c κs = search needs
+
+add-read : tie.Need-add-read
+add-read c = search needs
+
+read-requires : tie.Need-read-requires
+read-requires c κs = search needs
+
+module _ (c : tie.After-read) where
+  abbrev start : tie.Start
+  start = c .before .before .before .before
+
+  abbrev s : List ℕ
+  s = start .args .s .now
+
+  abbrev counts : Counts
+  counts = start .args .c
+
+  abbrev t : ℕ
+  t = start .args .t
+
+  -- the record that the stage's bytes are
+  abbrev stage : StageRecord
+  stage = stageAt s (stagesAt counts + 30 * t)
+
+  layer-is : c .before .u16-at .result ≡ stage .layer .0
+  layer-is = c .before .u16-at .ensures ∙ ap (λ (p : ℕ). u16At s (p + 30 * t + 6)) (c .before .before .stages-at .ensures)
+
+  steps-are : c .read .result ≡ stage .steps
+  steps-are = c .read .ensures ∙ ap (λ (p : ℕ). runAt s (p + 30 * t + 21)) (c .before .before .stages-at .ensures)
+
+  fit : Inside (c .read .result) (counts .steps)
+  fit = subst (λ (run : Run). Inside run (counts .steps)) (sym steps-are) (start .pre .0 .stages t (start .pre .1 .1) .steps-fit)
+
+enter-run-requires : tie.Need-enter-run-requires
+enter-run-requires c κs =
+    let r = c .before in
+    (start r .pre .0, (start r .pre .1 .0, fit r))
+
+returns : tie.Need-returns
+returns c =
+    let r = c .before .before in
+    stage-entered (s r) (counts r) (t r) (start r .pre .1 .1) (start r .args .ok) (start r .args .counts .now) (layer-is r) (steps-are r) (c .enter-run .ensures)
+
+pub enter-stage-spec : {M : Type 1} → statement M
+enter-stage-spec =
+    tie.close
+    (tie.spec
+    stages-at-requires
+    mul-p
+    add-p
+    add-u16-at
+    u16-at-requires
+    add-read
+    read-requires
+    enter-run-requires
+    returns)

@@ -1,0 +1,186 @@
+// The layer rules of document 01 that look at steps: Transfers enter layers from their parents, and Diverges name layers around them.
+ghost use mathlib.Core.Path.{_≡_};
+ghost use mathlib.Core.Bool.{true, _&&_, _||_};
+ghost use Prim.Native.Nat.{_+_, _≤_, _<_};
+ghost use lib.Dec.{eqb};
+ghost use lib.ListN.{length, getD, set};
+ghost use Rattle.vir.specs.Ids.{none};
+ghost use Rattle.image.specs.Accepted.{Accepted};
+ghost use Rattle.image.specs.Entering.{actionAt, actionsOf, entersOf, divergesOf, enterable, liesIn};
+ghost use Rattle.image.specs.Every.{every};
+ghost use Rattle.image.specs.Kind.{all, concat};
+ghost use Rattle.image.specs.Layout.{Sized};
+ghost use Rattle.image.specs.LayerRules.{parentsBelow, listedOnce, listedByOwnLayer, interfacesLie, entries, targets, enteredFromParent, divergesOut};
+ghost use Rattle.image.specs.Tally.{bump, tally};
+ghost use Rattle.image.specs.View.{viewOf};
+ghost use Rattle.image.specs.Vir.{layerOf, stageOf};
+use crate::bytes::u16_at;
+use crate::bytes::u32_at;
+use crate::layer_rules::lies_within;
+use crate::layout::Counts;
+use crate::records::Run;
+use crate::tally::bump;
+
+// The layer m is entered from l; `ok` is what the steps before came to.
+fn enter(s: &[u8], c: Counts, l: u16, m: u16, ok: bool, counts: &mut [u8; 256]) -> bool
+    requires { ⌜ Sized (now s) c ⌝ }
+    requires { ⌜ m < c .layers ⌝ }
+    ensures { λ r. ⌜ (r ≡ (ok && enterable (viewOf (now (s .entry)) c) l m))
+        × (now (counts .exit) ≡ set (now (counts .entry)) m (bump (getD (now (counts .entry)) m 0))) ⌝ }
+{
+    let i = m as usize;
+    counts[i] = bump(counts[i]);
+    let parent = u16_at(s, 21 + 6 * i);
+    ok & ((parent == 65535) | (parent == l))
+}
+
+// The step k, which stands in the layer l, enters its interface's layer if it is a Transfer.
+fn enter_step(s: &[u8], c: Counts, l: u16, k: usize, ok: bool, counts: &mut [u8; 256]) -> bool
+    requires { ⌜ Accepted (now s) c ⌝ }
+    requires { ⌜ interfacesLie (viewOf (now s) c) ≡ true ⌝ }
+    requires { ⌜ k < c .steps ⌝ }
+    ensures { λ r. ⌜ (r ≡ (ok && all (enterable (viewOf (now (s .entry)) c) l) (entersOf (viewOf (now (s .entry)) c) (actionAt (now (s .entry)) c k))))
+        × (now (counts .exit) ≡ tally (entersOf (viewOf (now (s .entry)) c) (actionAt (now (s .entry)) c k)) (now (counts .entry))) ⌝ }
+{
+    let p = c.steps_at() + 11 * k;
+    if s[p] != 6 {
+        return ok;
+    }
+    let b = u16_at(s, p + 5);
+    let m = u16_at(s, c.interfaces_at() + 9 * (b as usize));
+    enter(s, c, l, m, ok, counts)
+}
+
+// The steps of a list; `before` is what those in front of it came to.
+fn enter_run(s: &[u8], c: Counts, l: u16, run: Run, before: bool, counts: &mut [u8; 256]) -> bool
+    requires { ⌜ Accepted (now s) c ⌝ }
+    requires { ⌜ interfacesLie (viewOf (now s) c) ≡ true ⌝ }
+    requires { ⌜ run .first + run .count ≤ c .steps ⌝ }
+    ensures { λ r. ⌜ (r ≡ (before && all (enterable (viewOf (now (s .entry)) c) l)
+        (concat (entersOf (viewOf (now (s .entry)) c)) (actionsOf (now (s .entry)) c run))))
+        × (now (counts .exit) ≡ tally (concat (entersOf (viewOf (now (s .entry)) c)) (actionsOf (now (s .entry)) c run)) (now (counts .entry))) ⌝ }
+{
+    let mut k = run.first as usize;
+    let mut left = run.count;
+    let mut ok = before;
+    while left != 0 {
+        ok = enter_step(s, c, l, k, ok, counts);
+        k += 1;
+        left -= 1;
+    }
+    ok
+}
+
+fn enter_stage(s: &[u8], c: Counts, t: u16, ok: bool, counts: &mut [u8; 256]) -> bool
+    requires { ⌜ Accepted (now s) c ⌝ }
+    requires { ⌜ interfacesLie (viewOf (now s) c) ≡ true ⌝ }
+    requires { ⌜ t < c .stages ⌝ }
+    ensures { λ r. ⌜ (r ≡ (ok && all (enterable (viewOf (now (s .entry)) c) (stageOf (viewOf (now (s .entry)) c) t .layer))
+        (entries (viewOf (now (s .entry)) c) (stageOf (viewOf (now (s .entry)) c) t))))
+        × (now (counts .exit) ≡ tally (entries (viewOf (now (s .entry)) c) (stageOf (viewOf (now (s .entry)) c) t)) (now (counts .entry))) ⌝ }
+{
+    let p = c.stages_at() + 30 * (t as usize);
+    let l = u16_at(s, p + 6);
+    let run = Run::read(s, p + 21);
+    enter_run(s, c, l, run, ok, counts)
+}
+
+// Whether each layer with a parent is entered from it alone; how often each is entered is counted.
+pub fn enter_all(s: &[u8], c: Counts, counts: &mut [u8; 256]) -> bool
+    requires { ⌜ Accepted (now s) c ⌝ }
+    requires { ⌜ interfacesLie (viewOf (now s) c) ≡ true ⌝ }
+    ensures { λ r. ⌜ (r ≡ enteredFromParent (viewOf (now (s .entry)) c))
+        × (now (counts .exit) ≡ tally (concat (entries (viewOf (now (s .entry)) c)) (viewOf (now (s .entry)) c .stages)) (now (counts .entry))) ⌝ }
+{
+    let mut t: u16 = 0;
+    let mut ok = true;
+    while t < c.stages {
+        ok = enter_stage(s, c, t, ok, counts);
+        t += 1;
+    }
+    ok
+}
+
+// Whether every layer with a parent was counted once.
+pub fn entered_once(s: &[u8], c: Counts, counts: &[u8; 256]) -> bool
+    requires { ⌜ Sized (now s) c ⌝ }
+    ensures { λ r. ⌜ r ≡ every (length (viewOf (now (s .entry)) c .layers))
+        (λ l. eqb (layerOf (viewOf (now (s .entry)) c) l .parent) none || eqb (getD (now (counts .entry)) l 0) 1) ⌝ }
+{
+    let mut l: u16 = 0;
+    while l < c.layers {
+        let i = l as usize;
+        let parent = u16_at(s, 21 + 6 * i);
+        let n = counts[i];
+        if !((parent == 65535) | (n == 1)) {
+            return false;
+        }
+        l += 1;
+    }
+    true
+}
+
+// The step k, which stands in the layer l, names l or a layer around it if it is a Diverge.
+fn diverge_step(s: &[u8], c: Counts, l: u16, k: usize, ok: bool) -> bool
+    requires { ⌜ Accepted (now s) c ⌝ }
+    requires { ⌜ parentsBelow (viewOf (now s) c) ≡ true ⌝ }
+    requires { ⌜ l < c .layers ⌝ }
+    requires { ⌜ k < c .steps ⌝ }
+    ensures { λ r. ⌜ r ≡ (ok && all (liesIn (viewOf (now (s .entry)) c) l) (divergesOf (actionAt (now (s .entry)) c k))) ⌝ }
+{
+    let p = c.steps_at() + 11 * k;
+    if s[p] != 7 {
+        return ok;
+    }
+    let a = u32_at(s, p + 1);
+    ok & lies_within(s, c, l, a as u16)
+}
+
+fn diverge_run(s: &[u8], c: Counts, l: u16, run: Run, before: bool) -> bool
+    requires { ⌜ Accepted (now s) c ⌝ }
+    requires { ⌜ parentsBelow (viewOf (now s) c) ≡ true ⌝ }
+    requires { ⌜ l < c .layers ⌝ }
+    requires { ⌜ run .first + run .count ≤ c .steps ⌝ }
+    ensures { λ r. ⌜ r ≡ (before && all (liesIn (viewOf (now (s .entry)) c) l) (concat divergesOf (actionsOf (now (s .entry)) c run))) ⌝ }
+{
+    let mut k = run.first as usize;
+    let mut left = run.count;
+    let mut ok = before;
+    while left != 0 {
+        ok = diverge_step(s, c, l, k, ok);
+        k += 1;
+        left -= 1;
+    }
+    ok
+}
+
+fn diverge_stage(s: &[u8], c: Counts, t: u16, ok: bool) -> bool
+    requires { ⌜ Accepted (now s) c ⌝ }
+    requires { ⌜ parentsBelow (viewOf (now s) c) ≡ true ⌝ }
+    requires { ⌜ t < c .stages ⌝ }
+    requires { ⌜ stageOf (viewOf (now s) c) t .layer < c .layers ⌝ }
+    ensures { λ r. ⌜ r ≡ (ok && all (liesIn (viewOf (now (s .entry)) c) (stageOf (viewOf (now (s .entry)) c) t .layer))
+        (targets (stageOf (viewOf (now (s .entry)) c) t))) ⌝ }
+{
+    let p = c.stages_at() + 30 * (t as usize);
+    let l = u16_at(s, p + 6);
+    let run = Run::read(s, p + 21);
+    diverge_run(s, c, l, run, ok)
+}
+
+// Whether each Diverge names its own layer or one around it.
+pub fn diverges_out(s: &[u8], c: Counts) -> bool
+    requires { ⌜ Accepted (now s) c ⌝ }
+    requires { ⌜ parentsBelow (viewOf (now s) c) ≡ true ⌝ }
+    requires { ⌜ listedByOwnLayer (viewOf (now s) c) ≡ true ⌝ }
+    requires { ⌜ listedOnce (viewOf (now s) c) ≡ true ⌝ }
+    ensures { λ r. ⌜ r ≡ divergesOut (viewOf (now (s .entry)) c) ⌝ }
+{
+    let mut t: u16 = 0;
+    let mut ok = true;
+    while t < c.stages {
+        ok = diverge_stage(s, c, t, ok);
+        t += 1;
+    }
+    ok
+}
