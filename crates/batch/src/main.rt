@@ -6,12 +6,12 @@ ghost use mathlib.Core.Path.{_≡_};
 ghost use Prim.Native.Nat.{_≤_, _<_};
 ghost use lib.ListN.{length};
 use image::answer::Answer;
-use image::bytes::u32_at;
 use image::check::check_long;
 use libc::STDERR_FILENO;
 use libc::STDIN_FILENO;
 use libc::STDOUT_FILENO;
 use ownership::vine_check;
+use records::bytes::u32_at;
 
 // How reading a frame ended.
 enum Frame {

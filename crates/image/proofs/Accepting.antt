@@ -15,30 +15,30 @@ use Rattle.vir.specs.Header.{headers, headerOf}
 use Rattle.vir.specs.Ids.{none, idx}
 use Rattle.vir.specs.Interface.{kinds, kindOf}
 use Rattle.vir.specs.Step.{steps, stepOf}
-use Rattle.image.specs.declared.layout.Counts.{Counts}
-use Rattle.image.specs.declared.layout.Section.{Section}
-use Rattle.image.specs.declared.layout.Section.the-variants.{Ports}
-use Rattle.image.specs.declared.records.Run.{Run}
-use Rattle.image.specs.declared.records.LayerRecord.{LayerRecord}
-use Rattle.image.specs.declared.records.InterfaceRecord.{InterfaceRecord}
-use Rattle.image.specs.declared.records.StageRecord.{StageRecord}
-use Rattle.image.specs.declared.records.LocalRecord.{LocalRecord}
-use Rattle.image.specs.declared.records.TypeRecord.{TypeRecord}
-use Rattle.image.specs.declared.records.StepRecord.{StepRecord}
-use Rattle.image.specs.declared.records.PortRecord.{PortRecord}
-use Rattle.image.specs.declared.running.Running.{Running}
-use Rattle.image.specs.declared.running.Judged.{Judged}
-use Rattle.image.specs.declared.running.Judged.the-variants.{Fault, Next}
-use Rattle.image.specs.declared.running.Walked.{Walked}
-use Rattle.image.specs.declared.running.Walked.the-variants.{At, Clean}
+use Rattle.records.specs.declared.layout.Counts.{Counts}
+use Rattle.records.specs.declared.layout.Section.{Section}
+use Rattle.records.specs.declared.layout.Section.the-variants.{Ports}
+use Rattle.records.specs.declared.record.Run.{Run}
+use Rattle.records.specs.declared.record.LayerRecord.{LayerRecord}
+use Rattle.records.specs.declared.record.InterfaceRecord.{InterfaceRecord}
+use Rattle.records.specs.declared.record.StageRecord.{StageRecord}
+use Rattle.records.specs.declared.record.LocalRecord.{LocalRecord}
+use Rattle.records.specs.declared.record.TypeRecord.{TypeRecord}
+use Rattle.records.specs.declared.record.StepRecord.{StepRecord}
+use Rattle.records.specs.declared.record.PortRecord.{PortRecord}
+use Rattle.records.specs.declared.running.Running.{Running}
+use Rattle.records.specs.declared.running.Judged.{Judged}
+use Rattle.records.specs.declared.running.Judged.the-variants.{Fault, Next}
+use Rattle.records.specs.declared.running.Walked.{Walked}
+use Rattle.records.specs.declared.running.Walked.the-variants.{At, Clean}
 use Rattle.image.specs.Accepted.{entryAt, Named, NamedOrNone, LayerFacts, InterfaceFacts, StageFacts, LocalFacts, TypeFacts, StepFacts, PortFacts, Accepted}
-use Rattle.image.specs.Bytes.{u16At}
-use Rattle.image.specs.Faults.{orNone, typeNamed, flagsGood, laid, listAt, refsBelow, layerFields, layerGood, kindLists, closureAt, entriesNamed, interfaceFields, interfaceGood, headerHas, transferGood, stageNamed, stageLists, stageFields, stageGood, localGood, typeGood, stepHas, stepNamed, stepGood, portGood}
-use Rattle.image.specs.Judge.{judge, after, walk, walkSection, onwards, walkAll}
-use Rattle.image.specs.Layout.{sections, sizeOf, countOf, startOf, Sized}
-use Rattle.image.proofs.Every.{every-at}
-use Rattle.image.proofs.Fits.{laid-fits, layer-fits, interface-fits, closure-three, stage-fits, stage-steps-fit, stage-ports-fit, entries-inspect, entries-closure, entries-stages, named-invoke, named-transfer, named-diverge}
-use Rattle.image.proofs.Guards.{left-true, right-true}
+use Rattle.records.specs.Bytes.{u16At}
+use Rattle.records.specs.Faults.{orNone, typeNamed, flagsGood, laid, listAt, refsBelow, layerFields, layerGood, kindLists, closureAt, entriesNamed, interfaceFields, interfaceGood, headerHas, transferGood, stageNamed, stageLists, stageFields, stageGood, localGood, typeGood, stepHas, stepNamed, stepGood, portGood}
+use Rattle.records.specs.Judge.{judge, after, walk, walkSection, onwards, walkAll}
+use Rattle.records.specs.Layout.{sections, sizeOf, countOf, startOf, Sized}
+use Rattle.records.proofs.Every.{every-at}
+use Rattle.records.proofs.Fits.{laid-fits, layer-fits, interface-fits, closure-three, stage-fits, stage-steps-fit, stage-ports-fit, entries-inspect, entries-closure, entries-stages, named-invoke, named-transfer, named-diverge}
+use Rattle.records.proofs.Guards.{left-true, right-true}
 
 -- what the tests show of an index ..
 named-or-none : (n i : ℕ) → orNone n i ≡ true → NamedOrNone i n

@@ -8,18 +8,18 @@ use native.Mathlib.Omega.{arith}
 use lib.ListN.{length, replicate, length-replicate}
 use borrow.Author.Tests.{lt-ltb, le-ltb, eq-eqb, ne-eqb, leb-true}
 use Rattle.image.specs.declared.answer.Answer.{Answer}
-use Rattle.image.specs.declared.layout.Counts.{Counts}
-use Rattle.image.specs.declared.running.Running.{Running}
-use Rattle.image.specs.declared.running.Walked.{Walked}
-use Rattle.image.specs.declared.running.Walked.the-variants.{At, Clean}
+use Rattle.records.specs.declared.layout.Counts.{Counts}
+use Rattle.records.specs.declared.running.Running.{Running}
+use Rattle.records.specs.declared.running.Walked.{Walked}
+use Rattle.records.specs.declared.running.Walked.the-variants.{At, Clean}
 use Rattle.image.specs.Check.{refused, marked, owned, kindAnswer, recordAnswer, checkOf}
-use Rattle.image.specs.Judge.{walkAll}
+use Rattle.records.specs.Judge.{walkAll}
 use Rattle.image.specs.Kind.{kindOfVir}
 use Rattle.image.specs.LayerRules.{layerRules}
-use Rattle.image.specs.Layout.{countsOf, within, lengthOf, sections, Sized}
+use Rattle.records.specs.Layout.{countsOf, within, lengthOf, sections, Sized}
 use Rattle.image.specs.View.{viewOf}
 use Rattle.image.specs.Vir.{Vir}
-use Rattle.image.proofs.Guards.{left-true, right-true}
+use Rattle.records.proofs.Guards.{left-true, right-true}
 
 -- the kind's answer by its tests
 abbrev byKind : Bool → Bool → Bool → Answer

@@ -5,16 +5,16 @@ use mathlib.Core.List.{List, [], _∷_}
 use Prim.Native.Nat.{ℕ, zero, suc, _+_, _*_}
 use native.Mathlib.Nat.{mul-suc, mul-zero, zero-add}
 use native.Mathlib.Omega.{arith}
-use Rattle.image.specs.declared.layout.Counts.{Counts}
-use Rattle.image.specs.declared.layout.Section.{Section}
-use Rattle.image.specs.declared.layout.Section.the-variants.{Layers, Interfaces, Stages, Locals, Types, Steps, Ports}
-use Rattle.image.specs.declared.running.Running.{Running}
-use Rattle.image.specs.declared.running.Judged.{Judged}
-use Rattle.image.specs.declared.running.Judged.the-variants.{Fault, Next}
-use Rattle.image.specs.declared.running.Walked.{Walked}
-use Rattle.image.specs.declared.running.Walked.the-variants.{At, Clean}
-use Rattle.image.specs.Judge.{judge, after, walk, walkSection, onwards, walkAll}
-use Rattle.image.specs.Layout.{sections, sizeOf, countOf, startOf}
+use Rattle.records.specs.declared.layout.Counts.{Counts}
+use Rattle.records.specs.declared.layout.Section.{Section}
+use Rattle.records.specs.declared.layout.Section.the-variants.{Layers, Interfaces, Stages, Locals, Types, Steps, Ports}
+use Rattle.records.specs.declared.running.Running.{Running}
+use Rattle.records.specs.declared.running.Judged.{Judged}
+use Rattle.records.specs.declared.running.Judged.the-variants.{Fault, Next}
+use Rattle.records.specs.declared.running.Walked.{Walked}
+use Rattle.records.specs.declared.running.Walked.the-variants.{At, Clean}
+use Rattle.records.specs.Judge.{judge, after, walk, walkSection, onwards, walkAll}
+use Rattle.records.specs.Layout.{sections, sizeOf, countOf, startOf}
 use Rattle.image.specs.View.{collect}
 use Rattle.image.proofs.Lists.{Lists, lists-none}
 

@@ -9,13 +9,13 @@ use lib.Dec.{eqb, ltb}
 use lib.ListN.{length}
 use borrow.Author.Tests.{eq-eqb, ne-eqb, eqb-false, ltb-true}
 use Rattle.vir.specs.Ids.{none}
-use Rattle.image.specs.declared.layout.Counts.{Counts}
-use Rattle.image.specs.Bytes.{u16At}
+use Rattle.records.specs.declared.layout.Counts.{Counts}
+use Rattle.records.specs.Bytes.{u16At}
 use Rattle.image.specs.LayerRules.{parentsBelow, within}
-use Rattle.image.specs.Layout.{layersAt}
+use Rattle.records.specs.Layout.{layersAt}
 use Rattle.image.specs.View.{viewOf}
 use Rattle.image.specs.Vir.{Vir, layerOf}
-use Rattle.image.proofs.Every.{every-at}
+use Rattle.records.proofs.Every.{every-at}
 use Rattle.image.proofs.Fields.{parent-at}
 use Rattle.image.proofs.Viewing.{length-layers}
 

@@ -9,12 +9,12 @@ use Rattle.vir.specs.Interface.{kindOf}
 use Rattle.vir.specs.Port.{portOf}
 use Rattle.vir.specs.Step.{stepOf}
 use Rattle.image.specs.declared.answer.Answer.{Answer}
-use Rattle.image.specs.Bytes.{u16At, u32At}
-use Rattle.image.specs.Every.{every}
+use Rattle.records.specs.Bytes.{u16At, u32At}
+use Rattle.records.specs.Every.{every}
 use Rattle.image.specs.Check.{checkOf}
 use Rattle.image.specs.Encode.{layersBytes, interfacesBytes, stagesBytes, actionsBytes, encode}
-use Rattle.image.specs.Faults.{layerGood, interfaceGood, stageGood}
-use Rattle.image.specs.Judge.{walk, walkAll}
+use Rattle.records.specs.Faults.{layerGood, interfaceGood, stageGood}
+use Rattle.records.specs.Judge.{walk, walkAll}
 use Rattle.image.specs.Kind.{all, concat, occurrences, present, kindOfVir}
 use Rattle.image.specs.LayerRules.{within, layerRules}
 use Rattle.image.specs.View.{collect, viewOf, view}

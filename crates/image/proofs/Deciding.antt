@@ -8,10 +8,10 @@ use lib.Dec.{eqb, ltb}
 use lib.ListN.{length}
 use borrow.Author.Tests.{lt-ltb, le-ltb, eq-eqb}
 use Rattle.vir.specs.Ids.{none}
-use Rattle.image.specs.declared.layout.Counts.{Counts}
-use Rattle.image.specs.Every.{every}
+use Rattle.records.specs.declared.layout.Counts.{Counts}
+use Rattle.records.specs.Every.{every}
 use Rattle.image.specs.Kind.{concat, occurrences, stagesOf, listed, listedByOwn, flat, layered, kindOfVir}
-use Rattle.image.specs.Layout.{Sized}
+use Rattle.records.specs.Layout.{Sized}
 use Rattle.image.specs.Tally.{tally, countedAt}
 use Rattle.image.specs.View.{viewOf}
 use Rattle.image.specs.Vir.{Vir, stageOf}

@@ -8,19 +8,19 @@ use lib.Dec.{eqb, ltb}
 use lib.ListN.{length, getD}
 use borrow.Author.Tests.{eqb-true, ltb-true, ltb-false}
 use Rattle.vir.specs.Ids.{none}
-use Rattle.image.specs.declared.layout.Counts.{Counts}
-use Rattle.image.specs.declared.records.Run.{Run}
-use Rattle.image.specs.declared.records.StageRecord.{StageRecord}
-use Rattle.image.specs.declared.records.StepRecord.{StepRecord}
+use Rattle.records.specs.declared.layout.Counts.{Counts}
+use Rattle.records.specs.declared.record.Run.{Run}
+use Rattle.records.specs.declared.record.StageRecord.{StageRecord}
+use Rattle.records.specs.declared.record.StepRecord.{StepRecord}
 use Rattle.image.specs.Entering.{actionAt, actionsOf, divergesOf, liesIn}
 use Rattle.image.specs.Kind.{all, concat, occurrences}
 use Rattle.image.specs.LayerRules.{listedOnce, listedByOwnLayer, targets}
-use Rattle.image.specs.Layout.{stagesAt, stepsAt}
-use Rattle.image.specs.Records.{stageAt, stepAt}
+use Rattle.records.specs.Layout.{stagesAt, stepsAt}
+use Rattle.records.specs.Records.{stageAt, stepAt}
 use Rattle.image.specs.View.{viewOf}
 use Rattle.image.specs.Vir.{Layer, Stage, Vir, layerOf, stageOf}
-use Rattle.image.proofs.Every.{every-at}
-use Rattle.image.proofs.Guards.{left-true, right-true}
+use Rattle.records.proofs.Every.{every-at}
+use Rattle.records.proofs.Guards.{left-true, right-true}
 use Rattle.image.proofs.Steps.{diverge-one, diverge-none}
 use Rattle.image.proofs.Viewing.{length-layers, length-stages, stage-at}
 

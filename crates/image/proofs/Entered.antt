@@ -8,21 +8,21 @@ use lib.Dec.{eqb, ltb}
 use lib.ListN.{length, getD}
 use borrow.Author.Tests.{eq-eqb, ne-eqb, eqb-true, eqb-false, ltb-true}
 use Rattle.vir.specs.Ids.{none}
-use Rattle.image.specs.declared.layout.Counts.{Counts}
-use Rattle.image.specs.declared.records.Run.{Run}
-use Rattle.image.specs.declared.records.StageRecord.{StageRecord}
-use Rattle.image.specs.declared.records.StepRecord.{StepRecord}
-use Rattle.image.specs.Bytes.{u16At}
+use Rattle.records.specs.declared.layout.Counts.{Counts}
+use Rattle.records.specs.declared.record.Run.{Run}
+use Rattle.records.specs.declared.record.StageRecord.{StageRecord}
+use Rattle.records.specs.declared.record.StepRecord.{StepRecord}
+use Rattle.records.specs.Bytes.{u16At}
 use Rattle.image.specs.Entering.{actionAt, actionsOf, entersOf, enterable}
-use Rattle.image.specs.Every.{every}
+use Rattle.records.specs.Every.{every}
 use Rattle.image.specs.Kind.{all, concat, occurrences}
 use Rattle.image.specs.LayerRules.{interfacesLie, entries}
-use Rattle.image.specs.Layout.{interfacesAt, stagesAt, stepsAt}
-use Rattle.image.specs.Records.{stageAt, stepAt}
+use Rattle.records.specs.Layout.{interfacesAt, stagesAt, stepsAt}
+use Rattle.records.specs.Records.{stageAt, stepAt}
 use Rattle.image.specs.Tally.{tally}
 use Rattle.image.specs.View.{viewOf}
 use Rattle.image.specs.Vir.{Stage, Vir, layerOf, interfaceOf, stageOf}
-use Rattle.image.proofs.Every.{every-at, every-cong}
+use Rattle.records.proofs.Every.{every-at, every-cong}
 use Rattle.image.proofs.Fields.{lies-at}
 use Rattle.image.proofs.Steps.{transfer-one, transfer-none}
 use Rattle.image.proofs.Tallies.{zeros, from-nothing}

@@ -2,9 +2,9 @@
 use mathlib.Core.Path.{_≡_, ap}
 use mathlib.Core.List.{List}
 use Prim.Native.Nat.{ℕ, _+_, _*_, _<_}
-use Rattle.image.specs.declared.layout.Counts.{Counts}
-use Rattle.image.specs.Bytes.{u16At}
-use Rattle.image.specs.Layout.{layersAt, interfacesAt, stagesAt}
+use Rattle.records.specs.declared.layout.Counts.{Counts}
+use Rattle.records.specs.Bytes.{u16At}
+use Rattle.records.specs.Layout.{layersAt, interfacesAt, stagesAt}
 use Rattle.image.specs.View.{viewOf}
 use Rattle.image.specs.Vir.{Layer, Interface, Stage, layerOf, interfaceOf, stageOf}
 use Rattle.image.proofs.Viewing.{layer-at, interface-at, stage-at}

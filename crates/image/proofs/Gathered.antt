@@ -3,17 +3,17 @@ use mathlib.Core.Path.{_≡_, refl, ap}
 use mathlib.Core.List.{List, _++_}
 use Prim.Native.Nat.{ℕ, _+_, _*_, _≤_}
 use native.Mathlib.Omega.{arith}
-use Rattle.image.specs.declared.layout.Counts.{Counts}
-use Rattle.image.specs.declared.layout.Section.{Section}
-use Rattle.image.specs.declared.layout.Section.the-variants.{Layers, Interfaces, Stages, Steps}
-use Rattle.image.specs.declared.running.Running.{Running}
-use Rattle.image.specs.declared.running.Judged.the-variants.{Next}
-use Rattle.image.specs.declared.running.Walked.the-variants.{Clean}
-use Rattle.image.specs.Bytes.{u16At}
-use Rattle.image.specs.Judge.{judge, walkSection}
+use Rattle.records.specs.declared.layout.Counts.{Counts}
+use Rattle.records.specs.declared.layout.Section.{Section}
+use Rattle.records.specs.declared.layout.Section.the-variants.{Layers, Interfaces, Stages, Steps}
+use Rattle.records.specs.declared.running.Running.{Running}
+use Rattle.records.specs.declared.running.Judged.the-variants.{Next}
+use Rattle.records.specs.declared.running.Walked.the-variants.{Clean}
+use Rattle.records.specs.Bytes.{u16At}
+use Rattle.records.specs.Judge.{judge, walkSection}
 use Rattle.image.specs.Kind.{concat}
-use Rattle.image.specs.Layout.{countOf, layersAt, interfacesAt, stagesAt, localsAt, typesAt, stepsAt, portsAt, refsAt}
-use Rattle.image.specs.Records.{layerAt, interfaceAt, stageAt, localAt, typeAt, stepAt, portAt}
+use Rattle.records.specs.Layout.{countOf, layersAt, interfacesAt, stagesAt, localsAt, typesAt, stepsAt, portsAt, refsAt}
+use Rattle.records.specs.Records.{layerAt, interfaceAt, stageAt, localAt, typeAt, stepAt, portAt}
 use Rattle.image.specs.View.{collect, layerOfRecord, interfaceOfRecord, stageOfRecord, localOfRecord, flexOfRecord, actionOfRecord, portOfRecord}
 use Rattle.image.specs.Vir.{Layer, Interface, Port, Action, Stage, Local, Flex}
 use Rattle.image.proofs.Clean.{placeOf, lists-section}

@@ -7,10 +7,10 @@ use native.Mathlib.Omega.{arith}
 use lib.Dec.{eqb}
 use lib.ListN.{length, getD, take}
 use lib.Seq.{getD-take}
-use Rattle.image.specs.declared.layout.Counts.{Counts}
-use Rattle.image.specs.Bytes.{u8At, u16At}
+use Rattle.records.specs.declared.layout.Counts.{Counts}
+use Rattle.records.specs.Bytes.{u8At, u16At}
 use Rattle.image.specs.Check.{refused, marked, checkOf}
-use Rattle.image.specs.Layout.{countsOf, within, lengthOf}
+use Rattle.records.specs.Layout.{countsOf, within, lengthOf}
 use Rattle.image.proofs.Answering.{check-unmarked, check-count, check-length, within-most}
 
 module _ (s t : List ℕ) (same : take 21 s ≡ take 21 t) where

@@ -6,13 +6,9 @@ pub mod Computed
 pub mod Deciding
 pub mod Diverging
 pub mod Entered
-pub mod Every
 pub mod Fields
-pub mod Fits
 pub mod Gathered
-pub mod Guards
 pub mod Heads
-pub mod Judging
 pub mod Listing
 pub mod Lists
 pub mod Numbers
@@ -26,4 +22,3 @@ pub mod Tags
 pub mod Tallies
 pub mod Turns
 pub mod Viewing
-pub mod Walks

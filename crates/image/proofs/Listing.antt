@@ -9,14 +9,14 @@ use lib.Dec.{eqb}
 use borrow.Author.Tests.{ne-eqb}
 use Rattle.vir.specs.Ids.{none}
 use Rattle.vir.specs.Interface.{kindOf}
-use Rattle.image.specs.declared.layout.Counts.{Counts}
-use Rattle.image.specs.declared.records.InterfaceRecord.{InterfaceRecord}
-use Rattle.image.specs.declared.records.LayerRecord.{LayerRecord}
+use Rattle.records.specs.declared.layout.Counts.{Counts}
+use Rattle.records.specs.declared.record.InterfaceRecord.{InterfaceRecord}
+use Rattle.records.specs.declared.record.LayerRecord.{LayerRecord}
 use Rattle.image.specs.Accepted.{Accepted, NamedOrNone}
-use Rattle.image.specs.Bytes.{u16At}
+use Rattle.records.specs.Bytes.{u16At}
 use Rattle.image.specs.Kind.{all, present, stagesIn, stagesOf}
-use Rattle.image.specs.Layout.{refsAt, layersAt, interfacesAt, stagesAt}
-use Rattle.image.specs.Records.{layerAt, interfaceAt, stageAt}
+use Rattle.records.specs.Layout.{refsAt, layersAt, interfacesAt, stagesAt}
+use Rattle.records.specs.Records.{layerAt, interfaceAt, stageAt}
 use Rattle.image.specs.Tally.{tally, fieldIs}
 use Rattle.image.specs.View.{collect, kindIn, refsFrom, viewOf}
 use Rattle.image.specs.Vir.{Layer, Interface, Stage, layerOf, interfaceOf, stageOf}

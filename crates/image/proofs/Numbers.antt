@@ -3,7 +3,7 @@ use mathlib.Core.Path.{_≡_, refl}
 use mathlib.Core.List.{List, [], _∷_}
 use Prim.Native.Nat.{ℕ, _+_, _<_}
 use native.Mathlib.Omega.{arith}
-use Rattle.image.specs.Bytes.{Bytes, u8At, u16At, u32At}
+use Rattle.records.specs.Bytes.{Bytes, u8At, u16At, u32At}
 use Rattle.image.specs.Encode.{u16Bytes, u32Bytes, runBytes}
 use Rattle.image.proofs.Lists.{Lists, lists-one, _then_}
 

@@ -10,16 +10,16 @@ use lib.ListN.{length, getD, set, drop, drop-of-length-le}
 use lib.Seq.{drop-cons}
 use borrow.Author.Tests.{eqb-true, eqb-false}
 use Rattle.vir.specs.Ids.{none}
-use Rattle.image.specs.declared.layout.Counts.{Counts}
-use Rattle.image.specs.declared.records.Run.{Run}
+use Rattle.records.specs.declared.layout.Counts.{Counts}
+use Rattle.records.specs.declared.record.Run.{Run}
 use Rattle.image.specs.Accepted.{NamedOrNone, entryAt}
-use Rattle.image.specs.Bytes.{u16At}
-use Rattle.image.specs.Every.{every}
+use Rattle.records.specs.Bytes.{u16At}
+use Rattle.records.specs.Every.{every}
 use Rattle.image.specs.Kind.{all, concat, present}
-use Rattle.image.specs.Layout.{refsAt}
+use Rattle.records.specs.Layout.{refsAt}
 use Rattle.image.specs.Tally.{bump, tally}
 use Rattle.image.specs.View.{collect}
-use Rattle.image.proofs.Every.{every-zero}
+use Rattle.records.proofs.Every.{every-zero}
 
 pub tally-append : (a b counts : List ℕ) → tally (a ++ b) counts ≡ tally b (tally a counts)
 unfolding tally

@@ -7,22 +7,22 @@ use native.Mathlib.Omega.{arith}
 use lib.Dec.{eqb}
 use lib.ListN.{length}
 use borrow.Author.Tests.{eqb-true}
-use Rattle.image.specs.declared.layout.Counts.{Counts}
-use Rattle.image.specs.declared.layout.Section.the-variants.{Layers, Interfaces, Locals, Types, Steps, Ports}
-use Rattle.image.specs.declared.running.Running.{Running}
-use Rattle.image.specs.declared.running.Walked.the-variants.{Clean}
-use Rattle.image.specs.Bytes.{Bytes, u8At, u16At}
+use Rattle.records.specs.declared.layout.Counts.{Counts}
+use Rattle.records.specs.declared.layout.Section.the-variants.{Layers, Interfaces, Locals, Types, Steps, Ports}
+use Rattle.records.specs.declared.running.Running.{Running}
+use Rattle.records.specs.declared.running.Walked.the-variants.{Clean}
+use Rattle.records.specs.Bytes.{Bytes, u8At, u16At}
 use Rattle.image.specs.Check.{marked, owned}
 use Rattle.image.specs.Encode.{u16Bytes, portBytes, interfacesBytes, stagesBytes, actionsBytes, allActions, stagePorts, allPorts, layerRefs, interfaceRefs, allRefs, countBytes, encode}
-use Rattle.image.specs.Judge.{walkAll}
+use Rattle.records.specs.Judge.{walkAll}
 use Rattle.image.specs.Kind.{concat}
-use Rattle.image.specs.Layout.{countsOf, sections, lengthOf, interfacesAt, stagesAt, localsAt, stepsAt, portsAt, refsAt, Sized}
+use Rattle.records.specs.Layout.{countsOf, sections, lengthOf, interfacesAt, stagesAt, localsAt, stepsAt, portsAt, refsAt, Sized}
 use Rattle.image.specs.View.{collect, viewOf, view}
 use Rattle.image.specs.Vir.{Action}
 use Rattle.image.proofs.Clean.{kept, Through, through}
 use Rattle.image.proofs.Numbers.{Spells, spells-u8, spells-u16}
 use Rattle.image.proofs.Gathered.{nthRef, nthPort, nthAction, nthFlex, nthLocal, nthStage, nthInterface, nthLayer, layer-refs, interface-refs, stage-refs, stage-steps, stage-ports, step-ports}
-use Rattle.image.proofs.Guards.{left-true, right-true}
+use Rattle.records.proofs.Guards.{left-true, right-true}
 use Rattle.image.proofs.Lists.{Lists, lists-as, lists-move, lists-length, lists-unique, lists-all, lists-whole, _then_}
 use Rattle.image.proofs.Spelled.{layers-spelled, interfaces-spelled, stages-from, stages-spelled, locals-spelled, types-spelled, steps-spelled, ports-spelled, refs-spelled}
 use Rattle.image.proofs.Turns.{layer-turn, interface-turn, local-turn, type-turn, step-turn, port-turn}

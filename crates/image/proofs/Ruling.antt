@@ -7,11 +7,11 @@ use native.Mathlib.Omega.{arith}
 use lib.Dec.{eqb}
 use lib.ListN.{length, getD}
 use Rattle.vir.specs.Ids.{none}
-use Rattle.image.specs.declared.layout.Counts.{Counts}
-use Rattle.image.specs.Every.{every}
+use Rattle.records.specs.declared.layout.Counts.{Counts}
+use Rattle.records.specs.Every.{every}
 use Rattle.image.specs.Kind.{concat, occurrences}
 use Rattle.image.specs.LayerRules.{parentsBelow, listedByOwnLayer, listedOnce, interfacesLie, enteredFromParent, enteredOnce, divergesOut, entries, layerRules}
-use Rattle.image.specs.Layout.{Sized}
+use Rattle.records.specs.Layout.{Sized}
 use Rattle.image.specs.Tally.{tally, countedAt}
 use Rattle.image.specs.View.{viewOf}
 use Rattle.image.specs.Vir.{Vir, layerOf}

@@ -3,19 +3,19 @@ use mathlib.Core.Path.{_≡_, _∙_, refl, sym, ap, ap₂}
 use mathlib.Core.List.{List, [], _∷_}
 use Prim.Native.Nat.{ℕ, suc, _+_, _*_, _≤_}
 use native.Mathlib.Omega.{arith}
-use Rattle.image.specs.declared.layout.Counts.{Counts}
-use Rattle.image.specs.declared.layout.Section.{Section}
-use Rattle.image.specs.declared.layout.Section.the-variants.{Layers, Interfaces, Stages, Locals, Types, Steps, Ports}
-use Rattle.image.specs.declared.records.StageRecord.{StageRecord}
-use Rattle.image.specs.declared.running.Running.{Running}
-use Rattle.image.specs.declared.running.Judged.the-variants.{Next}
-use Rattle.image.specs.declared.running.Walked.the-variants.{Clean}
-use Rattle.image.specs.Bytes.{Bytes, u8At, u16At}
+use Rattle.records.specs.declared.layout.Counts.{Counts}
+use Rattle.records.specs.declared.layout.Section.{Section}
+use Rattle.records.specs.declared.layout.Section.the-variants.{Layers, Interfaces, Stages, Locals, Types, Steps, Ports}
+use Rattle.records.specs.declared.record.StageRecord.{StageRecord}
+use Rattle.records.specs.declared.running.Running.{Running}
+use Rattle.records.specs.declared.running.Judged.the-variants.{Next}
+use Rattle.records.specs.declared.running.Walked.the-variants.{Clean}
+use Rattle.records.specs.Bytes.{Bytes, u8At, u16At}
 use Rattle.image.specs.Encode.{u16Bytes, layersBytes, interfacesBytes, stagesBytes, actionsBytes, localBytes, flexBytes, portBytes}
-use Rattle.image.specs.Judge.{judge, walkSection}
+use Rattle.records.specs.Judge.{judge, walkSection}
 use Rattle.image.specs.Kind.{concat}
-use Rattle.image.specs.Layout.{countOf, layersAt, interfacesAt, stagesAt, localsAt, typesAt, stepsAt, portsAt, refsAt, lengthOf}
-use Rattle.image.specs.Records.{stageAt}
+use Rattle.records.specs.Layout.{countOf, layersAt, interfacesAt, stagesAt, localsAt, typesAt, stepsAt, portsAt, refsAt, lengthOf}
+use Rattle.records.specs.Records.{stageAt}
 use Rattle.image.specs.View.{collect}
 use Rattle.image.specs.Vir.{Stage}
 use Rattle.image.proofs.Clean.{placeOf, lists-section}

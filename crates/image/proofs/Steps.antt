@@ -12,7 +12,7 @@ use Rattle.vir.specs.Ids.{none}
 use Rattle.vir.specs.Step.{steps, stepOf}
 use Rattle.image.specs.LayerRules.{transferTo, divergeTo}
 use Rattle.image.specs.View.{stepIn}
-use Rattle.image.proofs.Guards.{left-true, right-true}
+use Rattle.records.proofs.Guards.{left-true, right-true}
 
 -- of a list, counted from i on, only the n-th names anything
 abbrev onlyAt : {A : Type 0} → (A → List ℕ) → ℕ → ℕ → List A → Bool

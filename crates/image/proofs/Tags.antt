@@ -24,12 +24,12 @@ use Rattle.vir.specs.Ids.{none}
 use Rattle.vir.specs.Interface.{kindOf, kindNumber}
 use Rattle.vir.specs.Port.{portOf, portNumber, ports}
 use Rattle.vir.specs.Step.{stepOf, stepTag, steps, onwardOf}
-use Rattle.image.specs.declared.layout.Counts.{Counts}
-use Rattle.image.specs.declared.records.Run.{Run}
+use Rattle.records.specs.declared.layout.Counts.{Counts}
+use Rattle.records.specs.declared.record.Run.{Run}
 use Rattle.image.specs.Encode.{stepA, stepB, onwardB, portA, portB}
-use Rattle.image.specs.Faults.{orNone, kindLists, headerHas, stepHas, stepNamed}
+use Rattle.records.specs.Faults.{orNone, kindLists, headerHas, stepHas, stepNamed}
 use Rattle.image.specs.View.{kindIn, headerIn, stepIn, portIn}
-use Rattle.image.proofs.Guards.{left-true}
+use Rattle.records.proofs.Guards.{left-true}
 
 pub kind-back : (n m : ℕ) → kindLists (kindOf n) m ≡ true → n ≡ kindNumber (kindIn (kindOf n))
 kind-back n m = go (kindOf n) refl

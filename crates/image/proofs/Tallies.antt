@@ -10,11 +10,11 @@ use borrow.Author.Tests.{eq-eqb, ne-eqb, lt-ltb, ltb-true, ltb-false, eqb-true, 
 use lib.ListN.{length, getD, set, length-set, replicate, length-replicate, getD-replicate}
 use lib.Seq.{getD-set-same, getD-set-other}
 use Rattle.vir.specs.Ids.{none}
-use Rattle.image.specs.Every.{every}
+use Rattle.records.specs.Every.{every}
 use Rattle.image.specs.Kind.{all, occurrences, present}
 use Rattle.image.specs.Tally.{bump, tally, tallyEntry, owns, countedAt}
 use Rattle.image.specs.View.{collect}
-use Rattle.image.proofs.Every.{every-cong}
+use Rattle.records.proofs.Every.{every-cong}
 
 pub record Tallying (f : ℕ → Bool) (g : ℕ → ℕ) (all-own : Bool) (counted : List ℕ) (k left : ℕ) (ok : Bool) (counts : List ℕ) : Type 0 where
   pub own : (ok && all f (present (collect g k left))) ≡ all-own

@@ -9,23 +9,23 @@ use Rattle.vir.specs.Header.{headerOf, headerNumber}
 use Rattle.vir.specs.Interface.{kindOf, kindNumber}
 use Rattle.vir.specs.Port.{portOf, portNumber}
 use Rattle.vir.specs.Step.{stepOf, stepTag}
-use Rattle.image.specs.declared.layout.Counts.{Counts}
-use Rattle.image.specs.declared.layout.Section.the-variants.{Layers, Interfaces, Stages, Locals, Types, Steps, Ports}
-use Rattle.image.specs.declared.records.LayerRecord.{LayerRecord}
-use Rattle.image.specs.declared.records.InterfaceRecord.{InterfaceRecord}
-use Rattle.image.specs.declared.records.StageRecord.{StageRecord}
-use Rattle.image.specs.declared.records.StepRecord.{StepRecord}
-use Rattle.image.specs.declared.records.PortRecord.{PortRecord}
-use Rattle.image.specs.declared.running.Running.{Running}
-use Rattle.image.specs.declared.running.Judged.the-variants.{Next}
+use Rattle.records.specs.declared.layout.Counts.{Counts}
+use Rattle.records.specs.declared.layout.Section.the-variants.{Layers, Interfaces, Stages, Locals, Types, Steps, Ports}
+use Rattle.records.specs.declared.record.LayerRecord.{LayerRecord}
+use Rattle.records.specs.declared.record.InterfaceRecord.{InterfaceRecord}
+use Rattle.records.specs.declared.record.StageRecord.{StageRecord}
+use Rattle.records.specs.declared.record.StepRecord.{StepRecord}
+use Rattle.records.specs.declared.record.PortRecord.{PortRecord}
+use Rattle.records.specs.declared.running.Running.{Running}
+use Rattle.records.specs.declared.running.Judged.the-variants.{Next}
 use Rattle.image.specs.Encode.{stepA, stepB, portA, portB}
-use Rattle.image.specs.Faults.{orNone, laid, portsLaid, typeNamed, refsBelow, layerFields, layerGood, kindLists, entriesNamed, interfaceFields, interfaceGood, headerHas, transferGood, stageNamed, stageLists, stageFields, stageGood, localGood, typeGood, stepHas, stepNamed, stepGood, portGood}
-use Rattle.image.specs.Judge.{judge}
-use Rattle.image.specs.Records.{layerAt, interfaceAt, stageAt, localAt, typeAt, stepAt, portAt}
+use Rattle.records.specs.Faults.{orNone, laid, portsLaid, typeNamed, refsBelow, layerFields, layerGood, kindLists, entriesNamed, interfaceFields, interfaceGood, headerHas, transferGood, stageNamed, stageLists, stageFields, stageGood, localGood, typeGood, stepHas, stepNamed, stepGood, portGood}
+use Rattle.records.specs.Judge.{judge}
+use Rattle.records.specs.Records.{layerAt, interfaceAt, stageAt, localAt, typeAt, stepAt, portAt}
 use Rattle.image.specs.View.{kindIn, headerIn, stepIn, portIn}
 use Rattle.image.proofs.Clean.{passed, moved}
-use Rattle.image.proofs.Fits.{laid-first}
-use Rattle.image.proofs.Guards.{left-true, right-true}
+use Rattle.records.proofs.Fits.{laid-first}
+use Rattle.records.proofs.Guards.{left-true, right-true}
 use Rattle.image.proofs.Tags.{kind-back, header-back, step-back, step-fields, port-fields}
 
 pub record LayerTurn (r r′ : Running) (l : LayerRecord) : Type 0 where

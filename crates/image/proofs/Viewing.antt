@@ -5,9 +5,9 @@ use Prim.Native.Nat.{ℕ, zero, suc, _+_, _*_, _<_}
 use native.Mathlib.Nat.{le-of-suc-le-suc, not-suc-le-zero}
 use native.Mathlib.Omega.{arith}
 use lib.ListN.{length, getD}
-use Rattle.image.specs.declared.layout.Counts.{Counts}
-use Rattle.image.specs.Layout.{layersAt, interfacesAt, stagesAt}
-use Rattle.image.specs.Records.{layerAt, interfaceAt, stageAt}
+use Rattle.records.specs.declared.layout.Counts.{Counts}
+use Rattle.records.specs.Layout.{layersAt, interfacesAt, stagesAt}
+use Rattle.records.specs.Records.{layerAt, interfaceAt, stageAt}
 use Rattle.image.specs.View.{collect, layerOfRecord, interfaceOfRecord, stageOfRecord, viewOf}
 use Rattle.image.specs.Vir.{layerOf, interfaceOf, stageOf}
 

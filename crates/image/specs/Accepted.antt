@@ -3,19 +3,19 @@ use mathlib.Core.Path.{_≡_}
 use mathlib.Core.List.{List}
 use Prim.Native.Nat.{ℕ, _+_, _*_, _≤_, _<_}
 use Rattle.vir.specs.Ids.{none, idx}
-use Rattle.image.specs.declared.layout.Counts.{Counts}
-use Rattle.image.specs.declared.records.Run.{Run}
-use Rattle.image.specs.declared.records.LayerRecord.{LayerRecord}
-use Rattle.image.specs.declared.records.InterfaceRecord.{InterfaceRecord}
-use Rattle.image.specs.declared.records.StageRecord.{StageRecord}
-use Rattle.image.specs.declared.records.LocalRecord.{LocalRecord}
-use Rattle.image.specs.declared.records.TypeRecord.{TypeRecord}
-use Rattle.image.specs.declared.records.StepRecord.{StepRecord}
-use Rattle.image.specs.declared.records.PortRecord.{PortRecord}
-use Rattle.image.specs.Bytes.{u16At}
-use Rattle.image.specs.Faults.{listAt}
-use Rattle.image.specs.Layout.{layersAt, interfacesAt, stagesAt, localsAt, typesAt, stepsAt, portsAt, Sized}
-use Rattle.image.specs.Records.{layerAt, interfaceAt, stageAt, localAt, typeAt, stepAt, portAt}
+use Rattle.records.specs.declared.layout.Counts.{Counts}
+use Rattle.records.specs.declared.record.Run.{Run}
+use Rattle.records.specs.declared.record.LayerRecord.{LayerRecord}
+use Rattle.records.specs.declared.record.InterfaceRecord.{InterfaceRecord}
+use Rattle.records.specs.declared.record.StageRecord.{StageRecord}
+use Rattle.records.specs.declared.record.LocalRecord.{LocalRecord}
+use Rattle.records.specs.declared.record.TypeRecord.{TypeRecord}
+use Rattle.records.specs.declared.record.StepRecord.{StepRecord}
+use Rattle.records.specs.declared.record.PortRecord.{PortRecord}
+use Rattle.records.specs.Bytes.{u16At}
+use Rattle.records.specs.Faults.{listAt}
+use Rattle.records.specs.Layout.{layersAt, interfacesAt, stagesAt, localsAt, typesAt, stepsAt, portsAt, Sized}
+use Rattle.records.specs.Records.{layerAt, interfaceAt, stageAt, localAt, typeAt, stepAt, portAt}
 
 -- the k-th entry of a list of refs
 abbrev pub entryAt : List ℕ → Counts → Run → ℕ → ℕ

@@ -5,15 +5,15 @@ use Prim.Native.Nat.{ℕ}
 use lib.Dec.{eqb, ltb}
 use lib.ListN.{length}
 use Rattle.image.specs.declared.answer.Answer.{Answer}
-use Rattle.image.specs.declared.layout.Counts.{Counts}
-use Rattle.image.specs.declared.running.Running.{Running}
-use Rattle.image.specs.declared.running.Walked.{Walked}
-use Rattle.image.specs.declared.running.Walked.the-variants.{At, Clean}
-use Rattle.image.specs.Bytes.{u8At, u16At}
-use Rattle.image.specs.Judge.{walkAll}
+use Rattle.records.specs.declared.layout.Counts.{Counts}
+use Rattle.records.specs.declared.running.Running.{Running}
+use Rattle.records.specs.declared.running.Walked.{Walked}
+use Rattle.records.specs.declared.running.Walked.the-variants.{At, Clean}
+use Rattle.records.specs.Bytes.{u8At, u16At}
+use Rattle.records.specs.Judge.{walkAll}
 use Rattle.image.specs.Kind.{kindOfVir}
 use Rattle.image.specs.LayerRules.{layerRules}
-use Rattle.image.specs.Layout.{countsOf, within, lengthOf, sections}
+use Rattle.records.specs.Layout.{countsOf, within, lengthOf, sections}
 use Rattle.image.specs.View.{viewOf}
 use Rattle.image.specs.Vir.{Vir}
 

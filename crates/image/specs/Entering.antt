@@ -5,12 +5,12 @@ use Prim.Native.Nat.{ℕ, _+_, _*_}
 use lib.Dec.{eqb}
 use lib.ListN.{length}
 use Rattle.vir.specs.Ids.{none}
-use Rattle.image.specs.declared.layout.Counts.{Counts}
-use Rattle.image.specs.declared.records.Run.{Run}
+use Rattle.records.specs.declared.layout.Counts.{Counts}
+use Rattle.records.specs.declared.record.Run.{Run}
 use Rattle.image.specs.Kind.{concat}
-use Rattle.image.specs.Layout.{stepsAt}
+use Rattle.records.specs.Layout.{stepsAt}
 use Rattle.image.specs.LayerRules.{transferTo, divergeTo, within}
-use Rattle.image.specs.Records.{stepAt}
+use Rattle.records.specs.Records.{stepAt}
 use Rattle.image.specs.View.{collect, actionOfRecord}
 use Rattle.image.specs.Vir.{Action, Vir, layerOf, interfaceOf}
 

@@ -7,7 +7,7 @@ use lib.ListN.{length}
 use Rattle.vir.specs.declared.interface.InterfaceKind.{InterfaceKind}
 use Rattle.vir.specs.declared.interface.InterfaceKind.the-variants.{Unconditional, Branch, Match, Closure, Inspect}
 use Rattle.vir.specs.Ids.{none}
-use Rattle.image.specs.Every.{every}
+use Rattle.records.specs.Every.{every}
 use Rattle.image.specs.Vir.{Interface, Stage, Vir, interfaceOf, stageOf}
 
 unfoldable pub all : {A : Type 0} → (A → Bool) → List A → Bool

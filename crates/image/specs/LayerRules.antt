@@ -7,7 +7,7 @@ use lib.ListN.{length}
 use Rattle.vir.specs.declared.step.Step.{Step}
 use Rattle.vir.specs.declared.step.Step.the-variants.{Invoke, Transfer, Diverge, Link, Call, Const, Composite, Rewrap, Enum, Union, Ref, List as Listing, String, InlineIvy, BoolNot, BoolAnd}
 use Rattle.vir.specs.Ids.{none}
-use Rattle.image.specs.Every.{every}
+use Rattle.records.specs.Every.{every}
 use Rattle.image.specs.Kind.{all, concat, occurrences}
 use Rattle.image.specs.Vir.{Layer, Action, Stage, Vir, layerOf, interfaceOf, stageOf}
 

@@ -1,15 +1,9 @@
 pub mod Accepted
-pub mod Bytes
 pub mod Check
 pub mod Encode
 pub mod Entering
-pub mod Every
-pub mod Faults
-pub mod Judge
 pub mod Kind
 pub mod LayerRules
-pub mod Layout
-pub mod Records
 pub mod Tally
 pub mod View
 pub mod Vir

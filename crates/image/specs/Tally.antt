@@ -5,9 +5,9 @@ use Prim.Native.Nat.{ℕ, _+_, _*_}
 use lib.Dec.{eqb, ltb, leb}
 use lib.ListN.{getD, set}
 use Rattle.vir.specs.Ids.{none}
-use Rattle.image.specs.declared.layout.Counts.{Counts}
-use Rattle.image.specs.Bytes.{u16At}
-use Rattle.image.specs.Layout.{stagesAt}
+use Rattle.records.specs.declared.layout.Counts.{Counts}
+use Rattle.records.specs.Bytes.{u16At}
+use Rattle.records.specs.Layout.{stagesAt}
 
 -- none, one, several
 abbrev pub bump : ℕ → ℕ

@@ -7,10 +7,9 @@ ghost use Rattle.image.specs.Check.{refused, marked, owned, kindAnswer, 
 ghost use Rattle.image.specs.Accepted.{Accepted};
 ghost use Rattle.image.specs.LayerRules.{layerRules};
 ghost use Rattle.image.specs.View.{viewOf};
-ghost use Rattle.image.specs.Judge.{walkAll};
-ghost use Rattle.image.specs.Layout.{sections, Sized};
+ghost use Rattle.records.specs.Judge.{walkAll};
+ghost use Rattle.records.specs.Layout.{sections, Sized};
 use crate::answer::Answer;
-use crate::bytes::u16_at;
 use crate::entering::diverges_out;
 use crate::entering::enter_all;
 use crate::entering::entered_once;
@@ -18,11 +17,12 @@ use crate::kind::kind;
 use crate::layer_rules::interfaces_lie;
 use crate::layer_rules::parents_below;
 use crate::layered::own_layers;
-use crate::layout::Counts;
-use crate::running::Running;
-use crate::running::Walked;
 use crate::tally::counted;
-use crate::walk::walk;
+use records::bytes::u16_at;
+use records::layout::Counts;
+use records::running::Running;
+use records::running::Walked;
+use records::walk::walk;
 
 fn refused(code: u32, place: u32) -> Answer
     ensures { λ r. ⌜ r ≡ refused code place ⌝ }

@@ -7,19 +7,19 @@ ghost use lib.ListN.{length, getD, set};
 ghost use Rattle.vir.specs.Ids.{none};
 ghost use Rattle.image.specs.Accepted.{Accepted};
 ghost use Rattle.image.specs.Entering.{actionAt, actionsOf, entersOf, divergesOf, enterable, liesIn};
-ghost use Rattle.image.specs.Every.{every};
+ghost use Rattle.records.specs.Every.{every};
 ghost use Rattle.image.specs.Kind.{all, concat};
-ghost use Rattle.image.specs.Layout.{Sized};
+ghost use Rattle.records.specs.Layout.{Sized};
 ghost use Rattle.image.specs.LayerRules.{parentsBelow, listedOnce, listedByOwnLayer, interfacesLie, entries, targets, enteredFromParent, divergesOut};
 ghost use Rattle.image.specs.Tally.{bump, tally};
 ghost use Rattle.image.specs.View.{viewOf};
 ghost use Rattle.image.specs.Vir.{layerOf, stageOf};
-use crate::bytes::u16_at;
-use crate::bytes::u32_at;
 use crate::layer_rules::lies_within;
-use crate::layout::Counts;
-use crate::records::Run;
 use crate::tally::bump;
+use records::bytes::u16_at;
+use records::bytes::u32_at;
+use records::layout::Counts;
+use records::record::Run;
 
 // The layer m is entered from l; `ok` is what the steps before came to.
 fn enter(s: &[u8], c: Counts, l: u16, m: u16, ok: bool, counts: &mut [u8; 256]) -> bool

@@ -3,12 +3,12 @@ ghost use mathlib.Core.Path.{_≡_};
 ghost use lib.Dec.{eqb};
 ghost use lib.ListN.{length};
 ghost use Rattle.vir.specs.Ids.{none};
-ghost use Rattle.image.specs.Every.{every};
-ghost use Rattle.image.specs.Layout.{Sized};
+ghost use Rattle.records.specs.Every.{every};
+ghost use Rattle.records.specs.Layout.{Sized};
 ghost use Rattle.image.specs.View.{viewOf};
 ghost use Rattle.image.specs.Vir.{stageOf};
-use crate::bytes::u16_at;
-use crate::layout::Counts;
+use records::bytes::u16_at;
+use records::layout::Counts;
 
 // Whether no stage has a transfer.
 pub fn transfers_none(s: &[u8], c: Counts) -> bool

@@ -9,10 +9,10 @@ ghost use Rattle.image.specs.Tally.{tally};
 ghost use Rattle.image.specs.View.{viewOf};
 ghost use Rattle.image.specs.Vir.{interfaceOf, stageOf};
 use crate::flat::transfers_none;
-use crate::layout::Counts;
-use crate::records::InterfaceRecord;
 use crate::tally::counted;
 use crate::tally::tally_run;
+use records::layout::Counts;
+use records::record::InterfaceRecord;
 
 // One interface: the stages that it lists have it in their own field, and are counted.
 fn own_interface(s: &[u8], c: Counts, i: u16, ok: bool, counts: &mut [u8; 256]) -> bool

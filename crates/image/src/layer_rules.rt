@@ -3,11 +3,11 @@ ghost use mathlib.Core.Path.{_≡_};
 ghost use mathlib.Core.Bool.{true};
 ghost use Prim.Native.Nat.{_<_};
 ghost use lib.ListN.{length};
-ghost use Rattle.image.specs.Layout.{Sized};
+ghost use Rattle.records.specs.Layout.{Sized};
 ghost use Rattle.image.specs.LayerRules.{parentsBelow, interfacesLie, within};
 ghost use Rattle.image.specs.View.{viewOf};
-use crate::bytes::u16_at;
-use crate::layout::Counts;
+use records::bytes::u16_at;
+use records::layout::Counts;
 
 pub fn parents_below(s: &[u8], c: Counts) -> bool
     requires { ⌜ Sized (now s) c ⌝ }

@@ -9,9 +9,9 @@ ghost use Rattle.image.specs.LayerRules.{listedByOwnLayer};
 ghost use Rattle.image.specs.Tally.{tally};
 ghost use Rattle.image.specs.View.{viewOf};
 ghost use Rattle.image.specs.Vir.{layerOf, stageOf};
-use crate::layout::Counts;
-use crate::records::LayerRecord;
 use crate::tally::tally_run;
+use records::layout::Counts;
+use records::record::LayerRecord;
 
 // One layer: the stages that it lists have it in their own field, and are counted.
 fn own_layer(s: &[u8], c: Counts, l: u16, ok: bool, counts: &mut [u8; 256]) -> bool

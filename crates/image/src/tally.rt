@@ -3,15 +3,15 @@ ghost use mathlib.Core.Path.{_≡_};
 ghost use Prim.Native.Nat.{ℕ, _+_, _*_, _≤_, _<_};
 ghost use lib.ListN.{getD, set};
 ghost use Rattle.vir.specs.Ids.{none};
-ghost use Rattle.image.specs.Bytes.{u16At};
-ghost use Rattle.image.specs.Every.{every};
+ghost use Rattle.records.specs.Bytes.{u16At};
+ghost use Rattle.records.specs.Every.{every};
 ghost use Rattle.image.specs.Kind.{all, present};
-ghost use Rattle.image.specs.Layout.{refsAt, Sized};
+ghost use Rattle.records.specs.Layout.{refsAt, Sized};
 ghost use Rattle.image.specs.Tally.{bump, tally, fieldIs, tallyEntry, owns, countedAt};
 ghost use Rattle.image.specs.View.{refsFrom};
-use crate::bytes::u16_at;
-use crate::layout::Counts;
-use crate::records::Run;
+use records::bytes::u16_at;
+use records::layout::Counts;
+use records::record::Run;
 
 pub fn bump(n: u8) -> u8
     ensures { λ r. ⌜ r ≡ bump n ⌝ }

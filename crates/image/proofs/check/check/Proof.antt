@@ -1,9 +1,9 @@
 use mathlib.Core.Path.{_∙_, sym, ap}
 use borrow.Author.Tests.{not-true, not-false}
-use Rattle.image.specs.declared.layout.Counts.{Counts}
+use Rattle.records.specs.declared.layout.Counts.{Counts}
 use Rattle.image.specs.Check.{recordAnswer}
-use Rattle.image.specs.Judge.{walkAll}
-use Rattle.image.specs.Layout.{within, lengthOf, sections}
+use Rattle.records.specs.Judge.{walkAll}
+use Rattle.records.specs.Layout.{within, lengthOf, sections}
 use Rattle.image.proofs.Answering.{check-short, check-unmarked, check-count, check-length, check-records, within-sized}
 use borrow.Author.Needs.{needs}
 use Rattle.image.proofs.check.check.Statement.{statement}

@@ -1,6 +1,6 @@
 use mathlib.Core.Path.{_∙_, sym, ap}
 use borrow.Author.Tests.{not-true, not-false}
-use Rattle.image.specs.Layout.{within}
+use Rattle.records.specs.Layout.{within}
 use Rattle.image.proofs.Heads.{long-unmarked, long-count, long-length}
 use borrow.Author.Needs.{needs}
 use Rattle.image.proofs.check.check_long.Statement.{statement}

@@ -3,13 +3,13 @@ use mathlib.Core.List.{List}
 use Prim.Native.Nat.{ℕ, _+_, _*_, _<_}
 use native.Mathlib.Omega.{arith}
 use borrow.Author.Needs.{needs}
-use Rattle.image.specs.declared.layout.Counts.{Counts}
-use Rattle.image.specs.declared.records.Run.{Run}
-use Rattle.image.specs.declared.records.StageRecord.{StageRecord}
+use Rattle.records.specs.declared.layout.Counts.{Counts}
+use Rattle.records.specs.declared.record.Run.{Run}
+use Rattle.records.specs.declared.record.StageRecord.{StageRecord}
 use Rattle.image.specs.Accepted.{Inside}
-use Rattle.image.specs.Bytes.{u16At}
-use Rattle.image.specs.Layout.{stagesAt}
-use Rattle.image.specs.Records.{runAt, stageAt}
+use Rattle.records.specs.Bytes.{u16At}
+use Rattle.records.specs.Layout.{stagesAt}
+use Rattle.records.specs.Records.{runAt, stageAt}
 use Rattle.image.proofs.Diverging.{layer-read, stage-diverged}
 use Rattle.image.proofs.entering.diverge_stage.Statement.{statement}
 use Rattle.image.proofs.entering.diverge_stage.Tie as tie

@@ -5,12 +5,12 @@ use Prim.Native.Nat.{ℕ, _+_, _*_, _<_}
 use native.Mathlib.Omega.{arith}
 use borrow.Author.Needs.{needs}
 use Rattle.vir.specs.Ids.{none}
-use Rattle.image.specs.declared.layout.Counts.{Counts}
-use Rattle.image.specs.declared.records.StepRecord.{StepRecord}
-use Rattle.image.specs.Bytes.{u8At, u32At}
+use Rattle.records.specs.declared.layout.Counts.{Counts}
+use Rattle.records.specs.declared.record.StepRecord.{StepRecord}
+use Rattle.records.specs.Bytes.{u8At, u32At}
 use Rattle.image.specs.Entering.{actionAt, divergesOf, liesIn}
-use Rattle.image.specs.Layout.{stepsAt}
-use Rattle.image.specs.Records.{stepAt}
+use Rattle.records.specs.Layout.{stepsAt}
+use Rattle.records.specs.Records.{stepAt}
 use Rattle.image.specs.View.{viewOf}
 use Rattle.image.proofs.Diverging.{diverges-none, diverges-one}
 use Rattle.image.proofs.Passing.{pass-none, pass-one}

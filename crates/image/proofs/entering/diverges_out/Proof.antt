@@ -5,15 +5,15 @@ use Prim.Native.Nat.{ℕ, _-_, _≤_, _<_}
 use native.Mathlib.Omega.{arith}
 use lib.ListN.{length}
 use borrow.Author.Needs.{needs}
-use Rattle.image.specs.declared.layout.Counts.{Counts}
+use Rattle.records.specs.declared.layout.Counts.{Counts}
 use Rattle.image.specs.Entering.{liesIn}
-use Rattle.image.specs.Every.{every}
+use Rattle.records.specs.Every.{every}
 use Rattle.image.specs.Kind.{all}
 use Rattle.image.specs.LayerRules.{targets}
 use Rattle.image.specs.View.{viewOf}
 use Rattle.image.specs.Vir.{stageOf}
 use Rattle.image.proofs.Diverging.{layer-below}
-use Rattle.image.proofs.Every.{every-zero, every-next}
+use Rattle.records.proofs.Every.{every-zero, every-next}
 use Rattle.image.proofs.Viewing.{length-stages}
 use Rattle.image.proofs.entering.diverges_out.Statement.{statement}
 use Rattle.image.proofs.entering.diverges_out.Tie as tie

@@ -3,7 +3,7 @@ use mathlib.Core.List.{List}
 use Prim.Native.Nat.{ℕ, _-_, _≤_, _<_}
 use native.Mathlib.Omega.{arith}
 use borrow.Author.Needs.{needs}
-use Rattle.image.specs.declared.layout.Counts.{Counts}
+use Rattle.records.specs.declared.layout.Counts.{Counts}
 use Rattle.image.specs.Entering.{enterable}
 use Rattle.image.specs.Kind.{all, concat}
 use Rattle.image.specs.LayerRules.{entries}

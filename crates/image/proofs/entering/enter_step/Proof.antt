@@ -3,12 +3,12 @@ use mathlib.Core.List.{List, [], _∷_}
 use Prim.Native.Nat.{ℕ, _+_, _*_, _<_}
 use native.Mathlib.Omega.{arith}
 use borrow.Author.Needs.{needs}
-use Rattle.image.specs.declared.layout.Counts.{Counts}
-use Rattle.image.specs.declared.records.StepRecord.{StepRecord}
-use Rattle.image.specs.Bytes.{u8At, u16At}
+use Rattle.records.specs.declared.layout.Counts.{Counts}
+use Rattle.records.specs.declared.record.StepRecord.{StepRecord}
+use Rattle.records.specs.Bytes.{u8At, u16At}
 use Rattle.image.specs.Entering.{actionAt, entersOf, enterable}
-use Rattle.image.specs.Layout.{interfacesAt, stepsAt}
-use Rattle.image.specs.Records.{stepAt}
+use Rattle.records.specs.Layout.{interfacesAt, stepsAt}
+use Rattle.records.specs.Records.{stepAt}
 use Rattle.image.specs.View.{viewOf}
 use Rattle.image.proofs.Entered.{interface-lies, enters-none, enters-one}
 use Rattle.image.proofs.Passing.{pass-none, pass-one, count-none, count-one}

@@ -7,13 +7,13 @@ use lib.Dec.{eqb}
 use borrow.Author.Needs.{needs}
 use borrow.Author.Tests.{eq-eqb, ne-eqb}
 use Rattle.vir.specs.Ids.{none}
-use Rattle.image.specs.declared.layout.Counts.{Counts}
-use Rattle.image.specs.Bytes.{u16At}
-use Rattle.image.specs.Every.{every}
-use Rattle.image.specs.Layout.{stagesAt}
+use Rattle.records.specs.declared.layout.Counts.{Counts}
+use Rattle.records.specs.Bytes.{u16At}
+use Rattle.records.specs.Every.{every}
+use Rattle.records.specs.Layout.{stagesAt}
 use Rattle.image.specs.View.{viewOf}
 use Rattle.image.specs.Vir.{stageOf}
-use Rattle.image.proofs.Every.{every-zero, every-on, every-stop, every-end}
+use Rattle.records.proofs.Every.{every-zero, every-on, every-stop, every-end}
 use Rattle.image.proofs.Fields.{transfer-at}
 use Rattle.image.proofs.Viewing.{length-stages}
 use Rattle.image.proofs.flat.transfers_none.Statement.{statement}

@@ -1,12 +1,12 @@
 use mathlib.Core.Path.{_≡_, _∙_, sym, ap, subst}
 use Prim.Native.Nat.{ℕ, _+_, _*_, _≤_, _<_}
 use native.Mathlib.Omega.{arith}
-use Rattle.image.specs.declared.records.InterfaceRecord.{InterfaceRecord}
+use Rattle.records.specs.declared.record.InterfaceRecord.{InterfaceRecord}
 use Rattle.image.specs.Accepted.{NamedOrNone}
-use Rattle.image.specs.Bytes.{u16At}
+use Rattle.records.specs.Bytes.{u16At}
 use Rattle.image.specs.Kind.{all, present}
-use Rattle.image.specs.Layout.{refsAt, interfacesAt}
-use Rattle.image.specs.Records.{interfaceAt}
+use Rattle.records.specs.Layout.{refsAt, interfacesAt}
+use Rattle.records.specs.Records.{interfaceAt}
 use Rattle.image.specs.Tally.{tally, fieldIs}
 use Rattle.image.specs.View.{refsFrom}
 use Rattle.image.proofs.Listing.{inspect-adds, list-adds}

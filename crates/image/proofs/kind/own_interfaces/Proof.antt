@@ -7,7 +7,7 @@ use lib.Dec.{eqb}
 use borrow.Author.Needs.{needs}
 use Rattle.vir.specs.declared.interface.InterfaceKind.the-variants.{Inspect}
 use Rattle.vir.specs.Ids.{none}
-use Rattle.image.specs.declared.layout.Counts.{Counts}
+use Rattle.records.specs.declared.layout.Counts.{Counts}
 use Rattle.image.specs.Kind.{all, concat, stagesOf}
 use Rattle.image.specs.Tally.{tally}
 use Rattle.image.specs.View.{viewOf}

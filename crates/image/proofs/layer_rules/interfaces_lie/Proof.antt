@@ -7,13 +7,13 @@ use lib.Dec.{ltb}
 use lib.ListN.{length}
 use borrow.Author.Needs.{needs}
 use borrow.Author.Tests.{lt-ltb, le-ltb}
-use Rattle.image.specs.declared.layout.Counts.{Counts}
-use Rattle.image.specs.Bytes.{u16At}
-use Rattle.image.specs.Every.{every}
-use Rattle.image.specs.Layout.{interfacesAt}
+use Rattle.records.specs.declared.layout.Counts.{Counts}
+use Rattle.records.specs.Bytes.{u16At}
+use Rattle.records.specs.Every.{every}
+use Rattle.records.specs.Layout.{interfacesAt}
 use Rattle.image.specs.View.{viewOf}
 use Rattle.image.specs.Vir.{interfaceOf}
-use Rattle.image.proofs.Every.{every-zero, every-on, every-stop, every-end}
+use Rattle.records.proofs.Every.{every-zero, every-on, every-stop, every-end}
 use Rattle.image.proofs.Fields.{lies-at}
 use Rattle.image.proofs.Viewing.{length-layers, length-interfaces}
 use Rattle.image.proofs.layer_rules.interfaces_lie.Statement.{statement}

@@ -3,7 +3,7 @@ use mathlib.Core.Bool.{true}
 use Prim.Native.Nat.{_+_, _*_, _≤_, _<_}
 use native.Mathlib.Omega.{arith}
 use lib.ListN.{length}
-use Rattle.image.specs.declared.layout.Counts.{Counts}
+use Rattle.records.specs.declared.layout.Counts.{Counts}
 use Rattle.image.specs.LayerRules.{parentsBelow}
 use Rattle.image.specs.View.{viewOf}
 use Rattle.image.proofs.Climbing.{Climbed, climbed-found, climbed-root, climbed-less, climbed-on}

@@ -7,12 +7,12 @@ use lib.Dec.{eqb, ltb}
 use borrow.Author.Needs.{needs}
 use borrow.Author.Tests.{not-true, not-false}
 use Rattle.vir.specs.Ids.{none}
-use Rattle.image.specs.declared.layout.Counts.{Counts}
-use Rattle.image.specs.Bytes.{u16At}
-use Rattle.image.specs.Every.{every}
+use Rattle.records.specs.declared.layout.Counts.{Counts}
+use Rattle.records.specs.Bytes.{u16At}
+use Rattle.records.specs.Every.{every}
 use Rattle.image.specs.View.{viewOf}
 use Rattle.image.specs.Vir.{layerOf}
-use Rattle.image.proofs.Every.{every-zero, every-on, every-stop, every-end}
+use Rattle.records.proofs.Every.{every-zero, every-on, every-stop, every-end}
 use Rattle.image.proofs.Fields.{parent-at}
 use Rattle.image.proofs.Viewing.{length-layers}
 use Rattle.image.proofs.layer_rules.parents_below.Statement.{statement}

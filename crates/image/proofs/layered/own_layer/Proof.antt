@@ -1,12 +1,12 @@
 use mathlib.Core.Path.{_∙_, sym, ap, subst}
 use Prim.Native.Nat.{ℕ, _+_, _*_, _≤_, _<_}
 use native.Mathlib.Omega.{arith}
-use Rattle.image.specs.declared.records.LayerRecord.{LayerRecord}
+use Rattle.records.specs.declared.record.LayerRecord.{LayerRecord}
 use Rattle.image.specs.Accepted.{NamedOrNone}
-use Rattle.image.specs.Bytes.{u16At}
+use Rattle.records.specs.Bytes.{u16At}
 use Rattle.image.specs.Kind.{all, present}
-use Rattle.image.specs.Layout.{refsAt}
-use Rattle.image.specs.Records.{layerAt}
+use Rattle.records.specs.Layout.{refsAt}
+use Rattle.records.specs.Records.{layerAt}
 use Rattle.image.specs.Tally.{tally, fieldIs}
 use Rattle.image.specs.View.{refsFrom}
 use Rattle.image.proofs.Listing.{layer-adds}

@@ -3,9 +3,9 @@ use mathlib.Core.Bool.{true}
 use Prim.Native.Nat.{_-_, _≤_}
 use borrow.Author.Needs.{needs}
 use borrow.Author.Tests.{not-true, not-false}
-use Rattle.image.specs.Every.{every}
+use Rattle.records.specs.Every.{every}
 use Rattle.image.specs.Tally.{countedAt}
-use Rattle.image.proofs.Every.{every-zero, every-on, every-stop, every-end}
+use Rattle.records.proofs.Every.{every-zero, every-on, every-stop, every-end}
 use Rattle.image.proofs.tally.counted.Statement.{statement}
 use Rattle.image.proofs.tally.counted.Tie as tie
 

@@ -4,10 +4,10 @@ use Prim.Native.Nat.{ℕ, _+_, _*_, _≤_, _<_}
 use native.Mathlib.Omega.{arith}
 use borrow.Author.Needs.{needs}
 use Rattle.vir.specs.Ids.{none}
-use Rattle.image.specs.declared.layout.Counts.{Counts}
-use Rattle.image.specs.Bytes.{u16At}
+use Rattle.records.specs.declared.layout.Counts.{Counts}
+use Rattle.records.specs.Bytes.{u16At}
 use Rattle.image.specs.Kind.{all, present}
-use Rattle.image.specs.Layout.{refsAt}
+use Rattle.records.specs.Layout.{refsAt}
 use Rattle.image.specs.Tally.{tally, fieldIs, tallyEntry, owns}
 use Rattle.image.specs.View.{collect}
 use Rattle.image.proofs.Tallies.{Tallying, tallying-start, tallying-on, tallying-end}

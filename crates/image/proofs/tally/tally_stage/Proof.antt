@@ -2,7 +2,7 @@ use mathlib.Core.Path.{_∙_, ap}
 use Prim.Native.Nat.{ℕ, _+_, _*_}
 use lib.Dec.{eqb}
 use lib.ListN.{set}
-use Rattle.image.specs.Bytes.{u16At}
+use Rattle.records.specs.Bytes.{u16At}
 use borrow.Author.Needs.{needs}
 use Rattle.image.proofs.tally.tally_stage.Statement.{statement}
 use Rattle.image.proofs.tally.tally_stage.Tie as tie

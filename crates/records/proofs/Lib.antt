@@ -1,0 +1,5 @@
+pub mod Every
+pub mod Fits
+pub mod Guards
+pub mod Judging
+pub mod Walks

@@ -1,0 +1,15 @@
+use borrow.Author.Needs.{needs}
+use Rattle.records.proofs.faults.layer_fields.Statement.{statement}
+use Rattle.records.proofs.faults.layer_fields.Tie as tie
+
+or-none-requires : tie.Need-or-none-requires
+or-none-requires c κs = search needs
+
+laid-requires : tie.Need-laid-requires
+laid-requires c κs = search needs
+
+returns : tie.Need-returns
+returns c = cc
+
+pub layer-fields-spec : {M : Type 1} → statement M
+layer-fields-spec = tie.close (tie.spec or-none-requires laid-requires returns)

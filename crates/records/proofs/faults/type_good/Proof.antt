@@ -1,0 +1,15 @@
+use borrow.Author.Needs.{needs}
+use Rattle.records.proofs.faults.type_good.Statement.{statement}
+use Rattle.records.proofs.faults.type_good.Tie as tie
+
+flags-good-requires : tie.Need-flags-good-requires
+flags-good-requires c κs = search needs
+
+flags-good-requires-2 : tie.Need-flags-good-requires-2
+flags-good-requires-2 c κs = search needs
+
+returns : tie.Need-returns
+returns c = cc
+
+pub type-good-spec : {M : Type 1} → statement M
+type-good-spec = tie.close (tie.spec flags-good-requires flags-good-requires-2 returns)

@@ -1,0 +1,29 @@
+use native.Mathlib.Omega.{arith}
+use Rattle.records.specs.Faults.{layerGood}
+use Rattle.records.proofs.Guards.{guard-holds}
+use Rattle.records.proofs.Judging.{judged-no, judged-next, layer-next}
+use borrow.Author.Needs.{needs}
+use Rattle.records.proofs.judge.judge_layer.Statement.{statement}
+use Rattle.records.proofs.judge.judge_layer.Tie as tie
+
+layer-good-requires : tie.Need-layer-good-requires
+layer-good-requires c κs = search needs
+
+returns : tie.Need-returns
+returns c = judged-no (layerGood (c .before .before .before .args .s .now) (c .before .before .before .args .c) (c .before .before .before .args .r) (c .before .before .before .args .l)) _ _ (c .before .layer-good .ensures) (c .if1 .taken)
+
+add-t8 : tie.Need-add-t8
+add-t8 c =
+    let start = c .before .before .before .before .before in
+    omega (
+      arith,
+      start .pre .1,
+      layer-next (start .args .s .now) (start .args .c) (start .args .r) (start .args .l)
+          (guard-holds (layerGood (start .args .s .now) (start .args .c) (start .args .r) (start .args .l)) _ (c .before .before .before .layer-good .ensures) (c .before .before .if1 .left)),
+    )
+
+returns-2 : tie.Need-returns-2
+returns-2 c = judged-next (layerGood (c .before .before .before .before .before .args .s .now) (c .before .before .before .before .before .args .c) (c .before .before .before .before .before .args .r) (c .before .before .before .before .before .args .l)) _ _ (c .before .before .before .layer-good .ensures) (c .before .before .if1 .left)
+
+pub judge-layer-spec : {M : Type 1} → statement M
+judge-layer-spec = tie.close (tie.spec layer-good-requires returns add-t8 returns-2)
