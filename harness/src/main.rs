@@ -12,11 +12,12 @@ use harness::{
     check::{LAYERED, check},
     generate::{self, Family},
     image::*,
+    samples::{SAMPLES, Sample},
 };
 
 type Answer = Result<Vec<u8>, Stop>;
 
-/// A command: its name, the names of its arguments, what it does.
+/// A command: its name, the names of its arguments (in brackets those that may be left out), what it does.
 struct Command {
     name: &'static str,
     arguments: &'static [&'static str],
@@ -24,7 +25,7 @@ struct Command {
     run: fn(&[String], &mut dyn Read) -> Answer,
 }
 
-const COMMANDS: [Command; 6] = [
+const COMMANDS: [Command; 9] = [
     Command {
         name: "report",
         arguments: &[],
@@ -49,6 +50,24 @@ const COMMANDS: [Command; 6] = [
         arguments: &["FAMILY", "SEED"],
         help: "the image that a family has for a seed",
         run: generate,
+    },
+    Command {
+        name: "families",
+        arguments: &["N"],
+        help: "N images of each family through Vine's own code, and counts of what came up",
+        run: live::families,
+    },
+    Command {
+        name: "compare",
+        arguments: &["[N]"],
+        help: "the port's check against the harness's own on N images, 20000 if not said",
+        run: ported::compare,
+    },
+    Command {
+        name: "bench",
+        arguments: &[],
+        help: "the table of docs/BENCHMARK.md: the port's check beside the harness's own",
+        run: ported::bench,
     },
     Command { name: "help", arguments: &[], help: "this text", run: help },
 ];
@@ -105,7 +124,8 @@ fn failed(why: impl Display) -> Stop {
 fn answer(words: &[String], input: &mut dyn Read) -> Answer {
     let (name, arguments) = words.split_first().ok_or_else(|| Stop::Misuse("no command".into()))?;
     let command = named(&COMMANDS, name, "command", |command| command.name.into())?;
-    if arguments.len() != command.arguments.len() {
+    let needed = command.arguments.iter().filter(|argument| !argument.starts_with('[')).count();
+    if !(needed..=command.arguments.len()).contains(&arguments.len()) {
         let takes =
             if command.arguments.is_empty() { "no arguments".into() } else { command.arguments.join(" ") };
         return Err(Stop::Misuse(format!("{name} takes {takes}")));
@@ -162,6 +182,7 @@ fn image(input: &mut dyn Read) -> Result<(Image, bool), Stop> {
 mod live {
     use harness::{
         bridge::{self, Normalised},
+        families::{Counts, walk},
         picture,
     };
 
@@ -175,6 +196,17 @@ mod live {
         let local = number(&arguments[0], "local")?;
         let drawn = picture::picture(&flat(input)?, local);
         drawn.map(String::into_bytes).ok_or_else(|| failed(format!("local {local} is not processed")))
+    }
+
+    pub fn families(arguments: &[String], _: &mut dyn Read) -> Answer {
+        let seeds = number(&arguments[0], "number of images")?;
+        let (mut text, mut all) = (String::new(), Counts::default());
+        for family in Family::ALL {
+            let counts = walk(family, 0..seeds);
+            text += &format!("{}: {counts}\n", family_name(&family));
+            all += counts;
+        }
+        Ok((text + &format!("in all: {all}\n")).into_bytes())
     }
 
     /// The image on the input, normalised if it has layers.
@@ -202,24 +234,54 @@ mod live {
         Err(no_sources())
     }
 
+    pub fn families(_: &[String], _: &mut dyn Read) -> Answer {
+        Err(no_sources())
+    }
+
     fn no_sources() -> Stop {
         let why = "this command needs Vine's sources, which were not at hand when the harness was built";
         Stop::Failed { status: 2, why: why.into() }
     }
 }
 
-// ---------------------------------------------------------------------------------------------------------------
-// Samples
+/// The commands that ask the port.
+#[cfg(feature = "port")]
+mod ported {
+    use harness::{bench, compare, port};
 
-type Sample = (&'static str, fn() -> Image);
+    use super::*;
 
-const SAMPLES: [Sample; 5] = [
-    ("example", || example(vec![invoke(tag::BARRIER, 8), invoke(tag::READ, 9)])),
-    ("clean", || example(vec![invoke(tag::READ, 9)])),
-    ("endless", endless),
-    ("split", split),
-    ("loop", loop_with_a_jump_out),
-];
+    pub fn compare(arguments: &[String], _: &mut dyn Read) -> Answer {
+        let n = arguments.first().map_or(Ok(20_000), |word| number(word, "number of images"))?;
+        let counts = compare::compare(compare::images(n), port::check).map_err(failed)?;
+        Ok(format!("{counts}\n").into_bytes())
+    }
+
+    pub fn bench(_: &[String], _: &mut dyn Read) -> Answer {
+        if cfg!(debug_assertions) {
+            return Err(failed("a debug build measures nothing: run it with --release"));
+        }
+        Ok(bench::table(&bench::subjects(), port::check, bench::ROUNDS).into_bytes())
+    }
+}
+
+#[cfg(not(feature = "port"))]
+mod ported {
+    use super::*;
+
+    pub fn compare(_: &[String], _: &mut dyn Read) -> Answer {
+        Err(no_library())
+    }
+
+    pub fn bench(_: &[String], _: &mut dyn Read) -> Answer {
+        Err(no_library())
+    }
+
+    fn no_library() -> Stop {
+        let why = "this command needs the port's library: build the harness with the feature port";
+        Stop::Failed { status: 2, why: why.into() }
+    }
+}
 
 fn sample_name((name, _): &Sample) -> String {
     name.to_string()
@@ -228,79 +290,6 @@ fn sample_name((name, _): &Sample) -> String {
 fn sample(arguments: &[String], _: &mut dyn Read) -> Answer {
     let (_, make) = named(&SAMPLES, &arguments[0], "sample", sample_name)?;
     Ok(make().encode())
-}
-
-/// Document 01's example of 38 bytes, with the steps given.
-fn example(steps: Vec<Step>) -> Image {
-    Image { interfaces: vec![unconditional(NONE, 0)], stages: vec![declaring(NONE, steps)], ..one_local() }
-}
-
-/// Document 01's interface whose only stage transfers to it.
-fn endless() -> Image {
-    Image {
-        interfaces: vec![unconditional(NONE, 0), unconditional(NONE, 1)],
-        stages: vec![declaring(NONE, vec![transfer(1)]), stage(1, NONE, vec![transfer(1)])],
-        ..one_local()
-    }
-}
-
-/// Document 01's root layer whose stage jumps to the layer's end.
-fn split() -> Image {
-    Image {
-        layers: vec![Layer { parent: NONE, stages: vec![0] }],
-        interfaces: vec![unconditional(0, 0)],
-        stages: vec![Stage { transfer: 0, ..stage(0, 0, vec![diverge(0)]) }],
-        ..Image::default()
-    }
-}
-
-/// `x = 1; loop { if ... { x = x + 1 } else { break } } use(x)`: layer 1 is the loop, its second stage jumps out.
-fn loop_with_a_jump_out() -> Image {
-    let around = stage(1, 1, vec![invoke(tag::READ, 2), invoke(tag::WRITE, 3)]);
-    let before = vec![invoke(tag::BARRIER_WRITE, 1), transfer(1), invoke(tag::READ_BARRIER, 4)];
-    Image {
-        layers: vec![Layer { parent: NONE, stages: vec![0] }, Layer { parent: 0, stages: vec![1, 2] }],
-        interfaces: vec![
-            unconditional(0, 0),
-            Interface { layer: 1, kind: kind::BRANCH, key: 0, list: vec![1, 2] },
-        ],
-        stages: vec![declaring(0, before), Stage { transfer: 1, ..around }, stage(1, 1, vec![diverge(1)])],
-        ..one_local()
-    }
-}
-
-fn one_local() -> Image {
-    let locals = vec![Local { span: 0, ty: 0, flags: FORK | DROP }];
-    Image { locals, types: vec![Type::default()], ..Image::default() }
-}
-
-fn unconditional(layer: u16, stage: u16) -> Interface {
-    Interface { layer, kind: kind::UNCONDITIONAL, key: 0, list: vec![stage] }
-}
-
-/// A Bare stage without declarations and without a transfer.
-fn stage(interface: u16, layer: u16, steps: Vec<Step>) -> Stage {
-    Stage { interface, layer, steps, transfer: NONE, ..Stage::default() }
-}
-
-/// A stage of interface 0 that declares local 0.
-fn declaring(layer: u16, steps: Vec<Step>) -> Stage {
-    Stage { declarations: vec![0], ..stage(0, layer, steps) }
-}
-
-/// An invocation of local 0 with ports that hold nothing.
-fn invoke(tag: u8, span: u32) -> Step {
-    let ports = if tag == tag::BARRIER { 0 } else { 1 };
-    Step { tag, a: span, b: 0, ports: vec![Port::default(); ports] }
-}
-
-fn transfer(interface: u16) -> Step {
-    Step { tag: tag::TRANSFER, a: 0, b: interface, ports: vec![] }
-}
-
-/// A jump to the end of a layer.
-fn diverge(target: u32) -> Step {
-    Step { tag: tag::DIVERGE, a: target, b: NONE, ports: vec![] }
 }
 
 // ---------------------------------------------------------------------------------------------------------------
@@ -423,7 +412,8 @@ mod tests {
     fn a_misuse_gets_the_usage_and_status_2() {
         let image = bytes("sample example", b"");
         let lines = "|nothing|show 1|sample|sample nothing|generate FlatSmall|generate Nothing 1\
-            |generate FlatSmall -1|generate FlatSmall 18446744073709551616|report 1|picture|help me";
+            |generate FlatSmall -1|generate FlatSmall 18446744073709551616|report 1|picture|help me\
+            |families|families 1 2|compare 1 2|bench 1";
         for line in lines.split('|') {
             let Outcome { status, out, err } = asked(line, &image);
             assert_eq!((status, out), (2, vec![]), "{line}");
@@ -487,10 +477,39 @@ mod tests {
     #[cfg(not(feature = "oracle"))]
     #[test]
     fn without_the_sources_a_line_says_so() {
-        for line in ["report", "picture 0"] {
+        for line in ["report", "picture 0", "families 1"] {
             let Outcome { status, out, err } = asked(line, &bytes("sample example", b""));
             assert_eq!((status, out, err.lines().count()), (2, vec![], 1), "{line}");
         }
+    }
+
+    #[cfg(not(feature = "port"))]
+    #[test]
+    fn without_the_library_a_line_says_so() {
+        for line in ["compare", "compare 5", "bench"] {
+            let Outcome { status, out, err } = asked(line, b"");
+            assert_eq!((status, out, err.lines().count()), (2, vec![], 1), "{line}");
+        }
+    }
+
+    #[cfg(feature = "port")]
+    #[test]
+    fn compare_takes_a_number_or_none() {
+        assert!(text("compare 30", b"").starts_with("30 images answered alike; by code 0: "));
+        assert!(text("compare", b"").starts_with("20000 images"));
+        for line in ["compare -1", "compare many"] {
+            assert_eq!(asked(line, b"").status, 2, "{line}");
+        }
+    }
+
+    #[cfg(feature = "oracle")]
+    #[test]
+    fn families_has_a_line_for_each_and_one_for_all() {
+        let counted = text("families 2", b"");
+        let names = Family::ALL.iter().map(family_name).chain(["in all".into()]);
+        assert!(counted.lines().zip(names).all(|(line, name)| line.starts_with(&format!("{name}: codes"))));
+        assert_eq!(counted.lines().count(), Family::ALL.len() + 1);
+        assert_eq!(asked("families many", b"").status, 2);
     }
 
     #[cfg(feature = "oracle")]

@@ -1,5 +1,7 @@
 //! The port's exported functions, each behind a safe one.
 
+use crate::check::Answer;
+
 /// What effect.rs has, on document 01's numbers. Nothing is demanded of them: a number past the last is Never.
 pub mod effect {
     unsafe extern "C" {
@@ -23,4 +25,23 @@ pub mod effect {
     pub fn flags(a: u8) -> [bool; 4] {
         [vine_effect_read(a), vine_effect_pass(a), vine_effect_barrier(a), vine_effect_write(a)]
     }
+}
+
+/// `struct vine_answer` of include/vine_ownership.h.
+#[repr(C)]
+struct VineAnswer {
+    code: u32,
+    place: u32,
+    kind: u32,
+}
+
+unsafe extern "C" {
+    fn vine_check(bytes: *const u8, length: usize) -> VineAnswer;
+}
+
+/// `check` of document 01, which takes any bytes.
+pub fn check(image: &[u8]) -> Answer {
+    // SAFETY: a slice's own pointer and length; the call only reads and keeps neither.
+    let VineAnswer { code, place, kind } = unsafe { vine_check(image.as_ptr(), image.len()) };
+    Answer { code, place, kind }
 }

@@ -11,12 +11,15 @@ pub mod Gathered
 pub mod Heads
 pub mod Listing
 pub mod Lists
+pub mod Named
 pub mod Numbers
 pub mod Owning
 pub mod Passing
+pub mod Reading
 pub mod RoundTrip
 pub mod Ruling
 pub mod Spelled
+pub mod Standing
 pub mod Steps
 pub mod Tags
 pub mod Tallies

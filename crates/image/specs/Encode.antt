@@ -1,7 +1,10 @@
 -- A value written out as an image: the records in file order, the lists laid end to end.
 -- (The high byte of a number is not cut off, so a number that does not fit its field makes no byte, and no accepted image.)
+use mathlib.Core.Bool.{Bool as Truth, true, not, _&&_}
 use mathlib.Core.List.{List, [], _∷_, _++_}
+use mathlib.Core.Path.{_≡_}
 use Prim.Native.Nat.{ℕ, _+_, _/_, _%_}
+use lib.Dec.{eqb, leb}
 use lib.ListN.{length}
 use Rattle.vir.specs.declared.port.PortKind.{PortKind}
 use Rattle.vir.specs.declared.port.PortKind.the-variants.{Nil, Bool, N32, F32, F64, Nat, Wire, Error}
@@ -14,7 +17,7 @@ use Rattle.vir.specs.Ids.{none}
 use Rattle.vir.specs.Interface.{kindNumber}
 use Rattle.vir.specs.Port.{portNumber}
 use Rattle.vir.specs.Step.{stepTag}
-use Rattle.image.specs.Kind.{concat}
+use Rattle.image.specs.Kind.{all, concat}
 use Rattle.image.specs.Vir.{Layer, Interface, Port, Action, Stage, Local, Flex, Vir}
 
 abbrev pub u16Bytes : ℕ → List ℕ
@@ -183,3 +186,31 @@ encode v =
     ++ actionsBytes (length (stagePorts v)) (allActions v)
     ++ concat portBytes (allPorts v)
     ++ concat u16Bytes (allRefs v)
+
+-- a Diverge that goes to `none` has the bytes of one that goes nowhere
+abbrev pub plainOnward : Onward → Truth
+plainOnward (To i) = not (eqb (i .0) none)
+plainOnward Nowhere = true
+
+-- its layer, a u16 in the Rust, is written in 32 bits, and one that needs more than 16 is read as `none`
+abbrev pub plainStep : Step → Truth
+plainStep (Invoke span l i) = true
+plainStep (Transfer i) = true
+plainStep (Diverge l o) = leb (l .0) none && plainOnward o
+plainStep (Link k) = true
+plainStep (Call k) = true
+plainStep (Const k) = true
+plainStep (Composite k) = true
+plainStep (Rewrap k) = true
+plainStep (Enum k) = true
+plainStep (Union k) = true
+plainStep (Ref k) = true
+plainStep (Listing k) = true
+plainStep (String k) = true
+plainStep (InlineIvy k) = true
+plainStep (BoolNot k) = true
+plainStep (BoolAnd k) = true
+
+-- a value that has no step of which the bytes say less
+abbrev pub Plain : Vir → Type 0
+Plain v = all (λ a. plainStep (a .step)) (allActions v) ≡ true
