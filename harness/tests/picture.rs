@@ -1,19 +1,10 @@
 //! docs/PICTURE.md held against the Rust: the pictures in docs/pictures, and those of generated images read back.
 
-/// A test that needs the Rust; without it, it counts as ignored.
-macro_rules! live {
-    ($name:ident, $body:block) => {
-        #[test]
-        #[cfg_attr(not(feature = "oracle"), ignore = "Vine's sources are not at hand")]
-        fn $name() {
-            #[cfg(feature = "oracle")]
-            $body
-        }
-    };
-}
+#[macro_use]
+mod common;
 
 #[cfg(feature = "oracle")]
-mod common {
+mod reading {
     use std::{
         fs,
         io::Write,
@@ -149,7 +140,7 @@ mod common {
     }
 }
 #[cfg(feature = "oracle")]
-use common::*;
+use reading::*;
 
 live!(the_pictures_in_docs_are_the_programs, {
     for name in DRAWN {
