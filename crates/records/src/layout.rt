@@ -1,4 +1,4 @@
-// Where everything lies: the eight counts, their maxima, and each section's start. The sizes of records stand here and nowhere else.
+// Where everything lies: the eight counts, their maxima, each section's start, and the size of its records.
 ghost use mathlib.Core.Path.{_≡_};
 ghost use Prim.Native.Nat.{_≤_};
 ghost use lib.ListN.{length, getD};
