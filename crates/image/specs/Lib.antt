@@ -1,9 +1,12 @@
 pub mod Accepted
+pub mod Call
 pub mod Check
 pub mod Encode
 pub mod Entering
 pub mod Kind
 pub mod LayerRules
+pub mod Loops
+pub mod Samples
 pub mod Tally
 pub mod View
 pub mod Vir

@@ -1,4 +1,5 @@
 pub mod Arity
+pub mod Flags
 pub mod Header
 pub mod Ids
 pub mod Interface

@@ -91,3 +91,28 @@ stepPorts (String key) = AtLeast 1
 stepPorts (InlineIvy key) = AtLeast 1
 stepPorts (BoolNot key) = Exactly 2
 stepPorts (BoolAnd key) = Exactly 3
+
+-- what an Invoke holds
+pub record Invoked : Type 0 where
+  pub span : ℕ
+  pub local : ℕ
+  pub invocation : Invocation
+
+-- .. if a step is one
+abbrev pub invokeOf : Step → List Invoked
+invokeOf (Invoke span local i) = record { span = span .0; local = local .0; invocation = i } ∷ []
+invokeOf (Transfer interface) = []
+invokeOf (Diverge layer onward) = []
+invokeOf (Link key) = []
+invokeOf (Call key) = []
+invokeOf (Const key) = []
+invokeOf (Composite key) = []
+invokeOf (Rewrap key) = []
+invokeOf (Enum key) = []
+invokeOf (Union key) = []
+invokeOf (Ref key) = []
+invokeOf (Listing key) = []
+invokeOf (String key) = []
+invokeOf (InlineIvy key) = []
+invokeOf (BoolNot key) = []
+invokeOf (BoolAnd key) = []

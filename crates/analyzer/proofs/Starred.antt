@@ -1,0 +1,10 @@
+-- The starred example on analysing holds, by computing.
+use mathlib.Core.Path.{refl}
+use Rattle.effect.specs.Example.{Hold}
+use Rattle.image.specs.Samples.{example}
+use Rattle.analyzer.specs.Starred.{starred}
+use Rattle.analyzer.proofs.Computed.{analysed}
+
+pub hold : Hold starred
+unfolding starred analysed example
+hold = (refl, tt)

@@ -1,0 +1,5 @@
+pub mod Divergence
+pub mod Normalise
+pub mod Normalize
+pub mod OpenWires
+pub mod Starred
