@@ -17,6 +17,7 @@ use Rattle.vir.specs.Ids.{none}
 use Rattle.vir.specs.Interface.{kindNumber}
 use Rattle.vir.specs.Port.{portNumber}
 use Rattle.vir.specs.Step.{stepTag}
+use Rattle.records.specs.declared.layout.Counts.{Counts}
 use Rattle.image.specs.Kind.{all, concat}
 use Rattle.image.specs.Vir.{Layer, Interface, Port, Action, Stage, Local, Flex, Vir}
 
@@ -160,6 +161,19 @@ interfaceRefs v = concat (λ i. i .list) (v .interfaces)
 
 abbrev pub allRefs : Vir → List ℕ
 allRefs v = layerRefs v ++ interfaceRefs v ++ concat (λ t. t .declarations) (v .stages)
+
+-- the counts of the image that a value makes
+abbrev pub countsOfVir : Vir → Counts
+countsOfVir v = record {
+  layers = length (v .layers);
+  interfaces = length (v .interfaces);
+  stages = length (v .stages);
+  locals = length (v .locals);
+  types = length (v .types);
+  steps = length (allActions v);
+  ports = length (allPorts v);
+  refs = length (allRefs v);
+}
 
 abbrev pub countBytes : Vir → List ℕ
 countBytes v =

@@ -1,30 +1,15 @@
 -- What normalise answers to an image, of whatever bytes.
-use mathlib.Core.Bool.{Bool, true, false}
+use mathlib.Core.Bool.{true, false}
 use mathlib.Core.List.{List}
 use Prim.Native.Nat.{ℕ}
 use lib.Dec.{eqb}
-use lib.ListN.{length}
-use Rattle.records.specs.declared.layout.Counts.{Counts}
 use Rattle.records.specs.Layout.{within}
 use Rattle.image.specs.Call.{Outcome, refusal, done, codeFor}
 use Rattle.image.specs.Check.{checkOf}
-use Rattle.image.specs.Encode.{encode, allActions, allPorts, allRefs}
+use Rattle.image.specs.Encode.{encode, countsOfVir}
 use Rattle.image.specs.View.{view}
 use Rattle.image.specs.Vir.{Vir}
 use Rattle.normalizer.specs.Normalize.{normalize}
-
--- the counts of the image that a value makes
-abbrev pub countsOfVir : Vir → Counts
-countsOfVir v = record {
-  layers = length (v .layers);
-  interfaces = length (v .interfaces);
-  stages = length (v .stages);
-  locals = length (v .locals);
-  types = length (v .types);
-  steps = length (allActions v);
-  ports = length (allPorts v);
-  refs = length (allRefs v);
-}
 
 -- 9 excess: a count of the result over its maximum
 abbrev pub laidOut : Vir → Outcome
