@@ -1,4 +1,5 @@
 pub mod Divergence
+pub mod Layered
 pub mod Normalise
 pub mod Normalize
 pub mod OpenWires
