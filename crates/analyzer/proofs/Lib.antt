@@ -1,2 +1,6 @@
 pub mod Computed
+pub mod Each
+pub mod Networks
+pub mod Sizes
+pub mod Stages
 pub mod Starred

@@ -3,6 +3,8 @@ pub mod Analyze
 pub mod Build
 pub mod Errors
 pub mod Fill
+pub mod Flat
+pub mod Sizes
 pub mod Starred
 pub mod Sweep
 pub mod Wires
