@@ -4,3 +4,4 @@ pub mod Networks
 pub mod Sizes
 pub mod Stages
 pub mod Starred
+pub mod Sweeps

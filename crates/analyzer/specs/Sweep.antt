@@ -30,3 +30,9 @@ sweep (suc k) v i incoming =
 -- `self.sweep(InterfaceId(0))`
 unfoldable pub incomingOf : Vir → List ℕ
 incomingOf v = sweep (suc (length (v .interfaces))) v 0 (replicate (length (v .interfaces)) 0)
+
+-- how many interfaces have not been come to
+unfoldable pub unmet : List ℕ → ℕ
+unmet [] = 0
+unmet (zero ∷ more) = suc (unmet more)
+unmet (suc n ∷ more) = unmet more
