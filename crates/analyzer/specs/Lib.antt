@@ -1,6 +1,7 @@
 pub mod Analyse
 pub mod Analyze
 pub mod Build
+pub mod Demand
 pub mod Errors
 pub mod Fill
 pub mod Flat
