@@ -468,6 +468,11 @@ pub fn normalise(image: &Image) -> Normalised {
     }
 }
 
+/// The image, normalised if it has layers.
+pub fn flat(image: Image) -> Normalised {
+    if image.layers.is_empty() { Normalised::Flat(image) } else { normalise(&image) }
+}
+
 /// What Vine's analyzer makes of a flat image, locals in number order. Variables and relations are numbers.
 #[derive(Clone, Debug)]
 pub struct Analysis {
@@ -587,6 +592,15 @@ pub fn report(image: &Image, span: u32) -> Report {
         incoming: analysis.incoming,
         wires: analysis.wires,
         diagnostics,
+    }
+}
+
+/// What document 01's program makes of an accepted image: the flat image and the report on it; none if normalising
+/// gives code 9.
+pub fn program(image: &[u8]) -> Option<(Vec<u8>, Vec<u8>)> {
+    match flat(Image::decode(image)) {
+        Normalised::Flat(flat) => Some((flat.encode(), report(&flat, 0).encode())),
+        Normalised::Excess => None,
     }
 }
 

@@ -15,4 +15,8 @@ pub mod port;
 pub mod report;
 pub mod samples;
 #[cfg(feature = "oracle")]
+pub mod shrink;
+#[cfg(feature = "oracle")]
+pub mod slips;
+#[cfg(feature = "oracle")]
 pub mod worklist;

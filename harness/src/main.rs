@@ -9,7 +9,7 @@ use std::{
 };
 
 use harness::{
-    check::{LAYERED, check},
+    check::check,
     generate::{self, Family},
     image::*,
     samples::{SAMPLES, Sample},
@@ -25,7 +25,7 @@ struct Command {
     run: fn(&[String], &mut dyn Read) -> Answer,
 }
 
-const COMMANDS: [Command; 9] = [
+const COMMANDS: [Command; 10] = [
     Command {
         name: "report",
         arguments: &[],
@@ -56,6 +56,12 @@ const COMMANDS: [Command; 9] = [
         arguments: &["N"],
         help: "N images of each family through Vine's own code, and counts of what came up",
         run: live::families,
+    },
+    Command {
+        name: "slips",
+        arguments: &["[N]"],
+        help: "for each slip of docs/SLIPS.md the smallest image found, from N seeds, 100 if not said",
+        run: live::slips,
     },
     Command {
         name: "compare",
@@ -166,13 +172,13 @@ fn generate(arguments: &[String], _: &mut dyn Read) -> Answer {
     Ok(generate::image(*family, number(&arguments[1], "seed")?))
 }
 
-/// The image on the input, and whether it has layers.
-fn image(input: &mut dyn Read) -> Result<(Image, bool), Stop> {
+/// The image on the input.
+fn image(input: &mut dyn Read) -> Result<Image, Stop> {
     let mut bytes = vec![];
     input.read_to_end(&mut bytes).map_err(failed)?;
     let answer = check(&bytes);
     match answer.code {
-        0 => Ok((Image::decode(&bytes), answer.kind == LAYERED)),
+        0 => Ok(Image::decode(&bytes)),
         code => Err(Stop::Refused(code, answer.place)),
     }
 }
@@ -184,6 +190,7 @@ mod live {
         bridge::{self, Normalised},
         families::{Counts, walk},
         picture,
+        slips::{SLIPS, slipped, smallest},
     };
 
     use super::*;
@@ -209,13 +216,33 @@ mod live {
         Ok((text + &format!("in all: {all}\n")).into_bytes())
     }
 
+    pub fn slips(arguments: &[String], _: &mut dyn Read) -> Answer {
+        let seeds = arguments.first().map_or(Ok(100), |word| number(word, "number of seeds"))?;
+        let mut text = String::new();
+        for (n, (name, what)) in SLIPS.iter().enumerate() {
+            text += &format!("{name}: {what}\n");
+            let Some(image) = smallest(n, seeds) else {
+                text += "  no image found\n";
+                continue;
+            };
+            let report = |answer: Option<(Vec<u8>, Vec<u8>)>| match answer {
+                Some((_, report)) => hex(&report),
+                None => "refused 9 0".into(),
+            };
+            text += &format!("  {} bytes: {}\n", image.len(), hex(&image));
+            text += &format!("  right: {}\n", report(bridge::program(&image)));
+            text += &format!("  slipped: {}\n", report(slipped(n, &image)));
+        }
+        Ok(text.into_bytes())
+    }
+
+    fn hex(bytes: &[u8]) -> String {
+        bytes.iter().map(|byte| format!("{byte:02x}")).collect()
+    }
+
     /// The image on the input, normalised if it has layers.
     fn flat(input: &mut dyn Read) -> Result<Image, Stop> {
-        let (image, layered) = image(input)?;
-        if !layered {
-            return Ok(image);
-        }
-        match bridge::normalise(&image) {
+        match bridge::flat(image(input)?) {
             Normalised::Flat(image) => Ok(image),
             Normalised::Excess => Err(Stop::Refused(9, 0)),
         }
@@ -235,6 +262,10 @@ mod live {
     }
 
     pub fn families(_: &[String], _: &mut dyn Read) -> Answer {
+        Err(no_sources())
+    }
+
+    pub fn slips(_: &[String], _: &mut dyn Read) -> Answer {
         Err(no_sources())
     }
 
@@ -306,8 +337,7 @@ const PORTS: [&str; 8] = ["Nil", "Bool", "N32", "F32", "F64", "Nat", "Wire", "Er
 const FLAGS: [(u8, &str); 4] = [(INV, "inv"), (FORK, "fork"), (DROP, "drop"), (SELF_INVERSE, "self_inverse")];
 
 fn show(_: &[String], input: &mut dyn Read) -> Answer {
-    let (image, _) = image(input)?;
-    Ok(listing(&image).into_bytes())
+    Ok(listing(&image(input)?).into_bytes())
 }
 
 /// A line for each record; a list stands in the line of the record that owns it, and so does a port.
@@ -388,7 +418,7 @@ fn list(numbers: &[u16]) -> String {
 
 #[cfg(test)]
 mod tests {
-    use harness::check::FLAT;
+    use harness::check::{FLAT, LAYERED};
 
     use super::*;
 
@@ -413,7 +443,7 @@ mod tests {
         let image = bytes("sample example", b"");
         let lines = "|nothing|show 1|sample|sample nothing|generate FlatSmall|generate Nothing 1\
             |generate FlatSmall -1|generate FlatSmall 18446744073709551616|report 1|picture|help me\
-            |families|families 1 2|compare 1 2|bench 1";
+            |families|families 1 2|slips many|slips 1 2|compare 1 2|bench 1";
         for line in lines.split('|') {
             let Outcome { status, out, err } = asked(line, &image);
             assert_eq!((status, out), (2, vec![]), "{line}");
@@ -433,8 +463,9 @@ mod tests {
     #[test]
     fn the_samples_are_accepted() {
         for name in SAMPLES.iter().map(sample_name) {
-            let kind = if ["split", "loop"].contains(&name.as_str()) { LAYERED } else { FLAT };
-            assert_eq!(check(&bytes(&format!("sample {name}"), b"")).kind, kind, "{name}");
+            let sample = bytes(&format!("sample {name}"), b"");
+            let kind = if Image::decode(&sample).layers.is_empty() { FLAT } else { LAYERED };
+            assert_eq!(check(&sample).kind, kind, "{name}");
         }
     }
 
@@ -477,7 +508,7 @@ mod tests {
     #[cfg(not(feature = "oracle"))]
     #[test]
     fn without_the_sources_a_line_says_so() {
-        for line in ["report", "picture 0", "families 1"] {
+        for line in ["report", "picture 0", "families 1", "slips"] {
             let Outcome { status, out, err } = asked(line, &bytes("sample example", b""));
             assert_eq!((status, out, err.lines().count()), (2, vec![], 1), "{line}");
         }
@@ -510,6 +541,21 @@ mod tests {
         assert!(counted.lines().zip(names).all(|(line, name)| line.starts_with(&format!("{name}: codes"))));
         assert_eq!(counted.lines().count(), Family::ALL.len() + 1);
         assert_eq!(asked("families many", b"").status, 2);
+    }
+
+    #[cfg(feature = "oracle")]
+    #[test]
+    fn slips_has_four_lines_for_each() {
+        let found = text("slips 20", b"");
+        let lines: Vec<&str> = found.lines().collect();
+        assert_eq!(lines.len(), 4 * harness::slips::SLIPS.len());
+        for (lines, (name, _)) in lines.chunks(4).zip(harness::slips::SLIPS) {
+            assert!(
+                lines[0].starts_with(&format!("{name}: ")) && lines[1].contains(" bytes: 564952"),
+                "{name}"
+            );
+        }
+        assert!(text("slips 0", b"").contains("no image found"));
     }
 
     #[cfg(feature = "oracle")]

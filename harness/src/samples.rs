@@ -1,17 +1,42 @@
-//! Images with a name: document 01's examples, and a loop with a jump out of it.
+//! Images with a name: document 01's examples, a loop with a jump out of it, and those of docs/SLIPS.md.
 
 use crate::image::*;
 
 /// A name, and the image of that name.
 pub type Sample = (&'static str, fn() -> Image);
 
-pub const SAMPLES: [Sample; 5] = [
+/// A slip's image, which stands as hex in a file.
+macro_rules! slip {
+    ($name:literal) => {
+        (concat!("slip-", $name), || of_hex(include_str!(concat!("../slips/images/", $name, ".hex"))))
+    };
+}
+
+pub const SAMPLES: [Sample; 16] = [
     ("example", || example(vec![invoke(tag::BARRIER, 8), invoke(tag::READ, 9)])),
     ("clean", || example(vec![invoke(tag::READ, 9)])),
     ("endless", endless),
     ("split", split),
     ("loop", loop_with_a_jump_out),
+    slip!("two-rounds"),
+    slip!("first-in-first-out"),
+    slip!("arrival"),
+    slip!("ports-after"),
+    slip!("reached-inspect"),
+    slip!("strict-diagnostics"),
+    slip!("join-order-only"),
+    slip!("triple-only"),
+    slip!("infinite-twice"),
+    slip!("barrier-merge"),
+    slip!("never-union"),
 ];
+
+/// The image whose bytes stand as pairs of hex digits in lines.
+fn of_hex(text: &str) -> Image {
+    let digits: Vec<u32> = text.chars().filter_map(|c| c.to_digit(16)).collect();
+    let bytes: Vec<u8> = digits.chunks(2).map(|pair| (16 * pair[0] + pair[1]) as u8).collect();
+    Image::decode(&bytes)
+}
 
 /// Document 01's example of 38 bytes, with the steps given.
 fn example(steps: Vec<Step>) -> Image {
