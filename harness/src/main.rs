@@ -25,12 +25,18 @@ struct Command {
     run: fn(&[String], &mut dyn Read) -> Answer,
 }
 
-const COMMANDS: [Command; 10] = [
+const COMMANDS: [Command; 11] = [
     Command {
         name: "report",
         arguments: &[],
         help: "the report on the image on standard input, by Vine's own code, with span 0",
         run: live::report,
+    },
+    Command {
+        name: "flat",
+        arguments: &[],
+        help: "the image on standard input, normalised by Vine's own code if it is layered",
+        run: live::flatten,
     },
     Command {
         name: "picture",
@@ -199,6 +205,10 @@ mod live {
         Ok(bridge::report(&flat(input)?, 0).encode())
     }
 
+    pub fn flatten(_: &[String], input: &mut dyn Read) -> Answer {
+        Ok(flat(input)?.encode())
+    }
+
     pub fn picture(arguments: &[String], input: &mut dyn Read) -> Answer {
         let local = number(&arguments[0], "local")?;
         let drawn = picture::picture(&flat(input)?, local);
@@ -254,6 +264,10 @@ mod live {
     use super::*;
 
     pub fn report(_: &[String], _: &mut dyn Read) -> Answer {
+        Err(no_sources())
+    }
+
+    pub fn flatten(_: &[String], _: &mut dyn Read) -> Answer {
         Err(no_sources())
     }
 

@@ -5,3 +5,4 @@ pub mod Sizes
 pub mod Stages
 pub mod Starred
 pub mod Sweeps
+pub mod Worked

@@ -144,14 +144,13 @@ pub stages-name : (c : Counts) (ts : List Stage) → Each (λ t. stageFits c t �
     → Each (Names (c .interfaces)) ts
 unfolding concat
 stages-name c [] h k = tt
-stages-name c (t ∷ ts) h k =
-    (
-      record {
-        interface = ltb-true (t .interface) (c .interfaces) (own (h .0));
-        transfers = named-each c (t .steps) (each-left (λ a. actionFits c a ≡ true) (t .steps) (stepsIn ts) k);
-      },
-      stages-name c ts (h .1) (each-right (λ a. actionFits c a ≡ true) (t .steps) (stepsIn ts) k),
-    )
+stages-name c (t ∷ ts) h k = (
+  record {
+    interface = ltb-true (t .interface) (c .interfaces) (own (h .0));
+    transfers = named-each c (t .steps) (each-left (λ a. actionFits c a ≡ true) (t .steps) (stepsIn ts) k);
+  },
+  stages-name c ts (h .1) (each-right (λ a. actionFits c a ≡ true) (t .steps) (stepsIn ts) k),
+)
   where
     own : stageFits c t ≡ true → ltb (t .interface) (c .interfaces) ≡ true
     own f = right-true (u32Fits (t .span)) _ (left-true _ _ (left-true _ _ (left-true _ _ (left-true _ _ (left-true _ _ (left-true _ _ (left-true _ _ (left-true _ _ f))))))))

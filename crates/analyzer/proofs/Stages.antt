@@ -293,8 +293,7 @@ module _ (i : ℕ) (n₁ : Network) (segments : List ℕ) (transfers : List (ℕ
       let n₃ : Network = upTo k (crossed segments transfers fs bs) n₂ in
       let r : Sound i n₃ × (n₃ .vars ≡ n₂ .vars) × (length (n₃ .relations) ≡ length (n₂ .relations) + k) = crossed-on n₂ fs bs k h l f b in
       let back : getD bs (length bs - 1 - k) PASS < n₂ .vars = each-getD (λ x. x < n₂ .vars) bs (length bs - 1 - k) PASS b (omega (arith, h, some)) in
-      let fore : getD fs k PASS < n₂ .vars = each-getD (λ x. x < n₂ .vars) fs k PASS f (omega (arith, h, some)) in
-      (
+      let fore : getD fs k PASS < n₂ .vars = each-getD (λ x. x < n₂ .vars) fs k PASS f (omega (arith, h, some)) in (
         relation-sound n₃ (r .0) (getD bs (length bs - 1 - k) PASS) PASS (getD fs k PASS) (getD transfers k (PASS, PASS) .1)
             (omega (arith, back, r .1))
             (omega (arith, some, h, r .1))

@@ -9,3 +9,4 @@ pub mod Sizes
 pub mod Starred
 pub mod Sweep
 pub mod Wires
+pub mod Worked

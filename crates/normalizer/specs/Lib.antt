@@ -4,3 +4,4 @@ pub mod Normalise
 pub mod Normalize
 pub mod OpenWires
 pub mod Starred
+pub mod Worked
