@@ -1,4 +1,5 @@
 pub mod Computed
+pub mod Demand
 pub mod Each
 pub mod Networks
 pub mod Sizes

@@ -157,40 +157,45 @@ stages-name c (t ∷ ts) h k = (
 
 -- ---- the sizes
 
-pub sizes : (v : Vir) → WellFormed v → (incoming : List ℕ) → Sizes (build v incoming)
-unfolding build
-sizes v f incoming =
-    record {
-      vars = omega (arith, added .vars, b .1, most .interfaces, most .stages, most .steps);
-      relations = omega (arith, added .relations, ap length (b .2), most .stages, most .steps);
-      inside = λ k h. each-at (Inside (net .vars)) (net .relations) k _ (added .sound .relations) h;
-      segments = λ k d h. each-at (λ (s : Segment). s .var < net .vars) (net .segments) k d (added .sound .segments) h;
-      connected = λ k d h. each-at Ends (net .disconnects) k d (added .sound .disconnects) h .0;
-      disconnected = λ k d h. each-at Ends (net .disconnects) k d (added .sound .disconnects) h .1;
-    }
-  where
-    c : Counts
-    c = countsOfVir v
+module _ (v : Vir) (f : WellFormed v) (incoming : List ℕ) where
+  abbrev c : Counts
+  c = countsOfVir v
 
-    most : Sized (replicate (lengthOf c) 0) c
-    most = within-sized (replicate (lengthOf c) 0) c (f .counted) (length-replicate (lengthOf c) 0)
+  abbrev net : Network
+  net = build v incoming
 
-    apart : length (v .interfaces) ≡ 0 → ⊥
-    apart = eqb-false _ _ (not-true _ (left-true _ _ (left-true _ _ (left-true _ _ (left-true _ _ (left-true _ _ (left-true _ _ (left-true _ _ (left-true _ _ (f .counted))))))))))
+  begins : Sound (length (v .interfaces)) (begun v) × (begun v .vars ≡ 1 + 2 * length (v .interfaces)) × (begun v .relations ≡ [])
+  begins = begun-sound v (omega (arith, apart))
+    where
+      apart : length (v .interfaces) ≡ 0 → ⊥
+      apart = eqb-false _ _ (not-true _ (left-true _ _ (left-true _ _ (left-true _ _ (left-true _ _ (left-true _ _ (left-true _ _ (left-true _ _ (left-true _ _ (f .counted))))))))))
 
-    b : Sound (length (v .interfaces)) (begun v) × (begun v .vars ≡ 1 + 2 * length (v .interfaces)) × (begun v .relations ≡ [])
-    b = begun-sound v (omega (arith, apart))
+  added : Added (length (v .interfaces)) (begun v) net (5 * length (v .stages) + 3 * length (allActions v))
+  unfolding build
+  added =
+      built-added v incoming 0 (v .stages) (begun v)
+      (stages-name c (v .stages)
+      (all-each (stageFits c) (λ t. stageFits c t ≡ true) (λ t h. h) (v .stages) (f .stages))
+      (all-each (actionFits c) (λ a. actionFits c a ≡ true) (λ a h. h) (allActions v) (f .actions)))
+      (begins .0)
 
-    net : Network
-    net = buildFrom v incoming 0 (v .stages) (begun v)
+  -- every interface's two variables are there
+  pub room : 2 * length (v .interfaces) < net .vars
+  room = added .sound .room
 
-    Ends : Disconnect → Type 0
-    Ends d = (d .connected < net .vars) × (d .disconnected < net .vars)
+  abbrev Ends : Disconnect → Type 0
+  Ends d = (d .connected < net .vars) × (d .disconnected < net .vars)
 
-    added : Added (length (v .interfaces)) (begun v) net (5 * length (v .stages) + 3 * length (allActions v))
-    added =
-        built-added v incoming 0 (v .stages) (begun v)
-        (stages-name c (v .stages)
-        (all-each (stageFits c) (λ t. stageFits c t ≡ true) (λ t h. h) (v .stages) (f .stages))
-        (all-each (actionFits c) (λ a. actionFits c a ≡ true) (λ a h. h) (allActions v) (f .actions)))
-        (b .0)
+  pub sizes : Sizes net
+  sizes =
+      record {
+        vars = omega (arith, added .vars, begins .1, most .interfaces, most .stages, most .steps);
+        relations = omega (arith, added .relations, ap length (begins .2), most .stages, most .steps);
+        inside = λ k h. each-at (Inside (net .vars)) (net .relations) k _ (added .sound .relations) h;
+        segments = λ k d h. each-at (λ (s : Segment). s .var < net .vars) (net .segments) k d (added .sound .segments) h;
+        connected = λ k d h. each-at Ends (net .disconnects) k d (added .sound .disconnects) h .0;
+        disconnected = λ k d h. each-at Ends (net .disconnects) k d (added .sound .disconnects) h .1;
+      }
+    where
+      most : Sized (replicate (lengthOf c) 0) c
+      most = within-sized (replicate (lengthOf c) 0) c (f .counted) (length-replicate (lengthOf c) 0)

@@ -133,3 +133,9 @@ unfolding sweep
 sweep-first k v i c l h e =
     sweep-enough k (suc k) v i c l h (omega (arith, h))
     ∙ ap (counted (sweep k v) v i c) (eq-eqb _ _ e)
+
+-- there is a count for each interface
+pub incoming-sized : (v : Vir) → length (incomingOf v) ≡ length (v .interfaces)
+unfolding incomingOf
+incoming-sized v =
+    sweep-further (suc (length (v .interfaces))) v 0 (replicate (length (v .interfaces)) 0) .sized ∙ length-replicate (length (v .interfaces)) 0
