@@ -5,6 +5,7 @@ pub mod Demand
 pub mod Errors
 pub mod Fill
 pub mod Flat
+pub mod Reported
 pub mod Sizes
 pub mod Starred
 pub mod Sweep

@@ -1,0 +1,33 @@
+-- What of each local stands in the report: that of a processed one is answersFor's, of another nothing.
+use mathlib.Core.Path.{_≡_}
+use mathlib.Core.Bool.{true, false}
+use mathlib.Core.List.{List, [], _∷_}
+use Prim.Native.Nat.{ℕ, _<_}
+use lib.ListN.{length, getD}
+use Rattle.image.specs.View.{collect}
+use Rattle.image.specs.Vir.{Vir}
+use Rattle.report.specs.Report.{Wire, noWire}
+use Rattle.solve.specs.Least.{total}
+use Rattle.analyzer.specs.Analyze.{Answers, answersFor, processed, wireIn, analyze}
+use Rattle.analyzer.specs.Sweep.{incomingOf}
+
+abbrev pub answersIn : Vir → ℕ → List Answers
+answersIn v l = elim (processed v (incomingOf v) l) [ true ↦ answersFor v l ∷ [] | false ↦ [] ]
+
+abbrev pub takesIn : List Answers → ℕ
+takesIn [] = 0
+takesIn (a ∷ as') = a .takes
+
+abbrev pub evaluationsIn : List Answers → ℕ
+evaluationsIn [] = 0
+evaluationsIn (a ∷ as') = a .evaluations
+
+abbrev pub locals : Vir → List ℕ
+locals v = collect (λ l. l) 0 (length (v .locals))
+
+pub record Reported (span : ℕ) (v : Vir) : Type 0 where
+  pub wires : (i l : ℕ) → i < length (v .interfaces) → l < length (v .locals)
+      → getD (getD (analyze span v .wires) i []) l noWire ≡ wireIn i (answersIn v l)
+  -- sums over the processed locals
+  pub takes : analyze span v .takes ≡ total (λ l. takesIn (answersIn v l)) (locals v)
+  pub evaluations : analyze span v .evaluations ≡ total (λ l. evaluationsIn (answersIn v l)) (locals v)
