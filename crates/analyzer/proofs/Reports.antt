@@ -1,21 +1,29 @@
 -- The report is put together from what is said of each local.
-use mathlib.Core.Path.{_≡_, _∙_, refl, sym, ap}
+use mathlib.Core.Path.{_≡_, _∙_, refl, sym, ap, subst}
 use mathlib.Core.Bool.{Bool, true, false}
 use mathlib.Core.List.{List, [], _∷_, map}
-use Prim.Native.Nat.{ℕ, zero, suc, _+_, _<_}
+use Prim.Native.Nat.{ℕ, zero, suc, _+_, _<_, _≤_}
 use native.Mathlib.Nat.{le-of-suc-le-suc, not-suc-le-zero}
 use native.Mathlib.Omega.{arith}
-use lib.ListN.{length, getD, List·getD-map}
+use lib.ListN.{length, getD, replicate, length-map, length-replicate, List·getD-map}
+use Rattle.records.specs.declared.layout.Counts.{Counts}
+use Rattle.records.specs.Layout.{lengthOf, Sized}
+use Rattle.image.specs.Encode.{countsOfVir}
 use Rattle.image.specs.Loops.{each}
 use Rattle.image.specs.View.{collect}
 use Rattle.image.specs.Vir.{Vir}
-use Rattle.report.specs.Report.{Wire, noWire}
+use Rattle.image.proofs.Answering.{within-sized}
+use Rattle.image.proofs.Viewing.{length-collect}
+use Rattle.wellformed.specs.WellFormed.{WellFormed}
+use Rattle.report.specs.Report.{Wire, noWire, reportBytes}
+use Rattle.report.proofs.Lengths.{report-length}
 use Rattle.solve.specs.Least.{total}
 use Rattle.analyzer.specs.Analyze.{Answers, Column, Saying, answersFor, processed, processLocal, columns, wireIn, saidOf, analyze}
 use Rattle.analyzer.specs.Build.{build}
 use Rattle.analyzer.specs.Demand.{networkOf}
 use Rattle.analyzer.specs.Reported.{Reported, answersIn, takesIn, evaluationsIn, locals}
 use Rattle.analyzer.specs.Sweep.{incomingOf}
+use Rattle.analyzer.proofs.Sweeps.{incoming-sized}
 
 getD-collect : {A : Type 0} (f : ℕ → A) (i n k : ℕ) (d : A) → k < n → getD (collect f i n) k d ≡ f (i + k)
 unfolding collect
@@ -89,3 +97,26 @@ module _ (v : Vir) where
 
       silent : Saying
       silent = record { infiniteLoop = false; takes = 0; evaluations = 0; diags = [] }
+
+-- a report is never longer than any image, so it has room wherever an image has
+pub report-fits : (span : ℕ) (v : Vir) → WellFormed v → length (reportBytes (analyze span v)) ≤ 43032
+unfolding analyze
+report-fits span v f =
+    report-length (analyze span v)
+    (subst (λ (n : ℕ). n ≤ 256) (sym (incoming-sized v)) (most .interfaces))
+    (subst (λ (n : ℕ). n ≤ 256) (sym (length-collect rowAt 0 (length (v .interfaces)))) (most .interfaces))
+    (λ k h. subst (λ (row : List Wire). length row ≤ 256)
+    (sym (getD-all rowAt (length (v .interfaces)) k [] (subst (λ (n : ℕ). k < n) (length-collect rowAt 0 (length (v .interfaces))) h)))
+    (subst (λ (n : ℕ). n ≤ 256) (sym (length-map all (λ c. wireIn k (c .answers)) ∙ ap length (columns-are v) ∙ length-collect (columnAt v) 0 (length (v .locals)))) (most .locals)))
+  where
+    c : Counts
+    c = countsOfVir v
+
+    most : Sized (replicate (lengthOf c) 0) c
+    most = within-sized (replicate (lengthOf c) 0) c (f .counted) (length-replicate (lengthOf c) 0)
+
+    all : List Column
+    all = columns v (incomingOf v) (networkOf v)
+
+    rowAt : ℕ → List Wire
+    rowAt i = map (λ c. wireIn i (c .answers)) all
