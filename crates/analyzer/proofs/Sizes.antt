@@ -21,7 +21,8 @@ use Rattle.image.specs.LayerRules.{transferTo}
 use Rattle.image.proofs.Answering.{within-sized}
 use Rattle.image.specs.Vir.{Action, Interface, Stage, Vir}
 use Rattle.wellformed.specs.WellFormed.{WellFormed, u32Fits, stageFits, actionFits, stepFits}
-use Rattle.solve.specs.Least.{Inside}
+use Rattle.solve.specs.Least.{AllInside, Inside}
+use Rattle.solve.proofs.Entries.{entries-each}
 use Rattle.analyzer.specs.Build.{Touch, Segment, Disconnect, Network, PASS, getTransfer, isInspect, newSegment, inspects, begun, buildStage, buildFrom, build}
 use Rattle.analyzer.specs.Sizes.{Sizes}
 use Rattle.analyzer.specs.Sweep.{transfersOf}
@@ -191,11 +192,15 @@ module _ (v : Vir) (f : WellFormed v) (incoming : List ℕ) where
       record {
         vars = omega (arith, added .vars, begins .1, most .interfaces, most .stages, most .steps);
         relations = omega (arith, added .relations, ap length (begins .2), most .stages, most .steps);
-        inside = λ k h. each-at (Inside (net .vars)) (net .relations) k _ (added .sound .relations) h;
+        inside = all-inside;
+        entries = λ x. entries-each (Inside (net .vars)) (net .relations) x all-inside;
         segments = λ k d h. each-at (λ (s : Segment). s .var < net .vars) (net .segments) k d (added .sound .segments) h;
         connected = λ k d h. each-at Ends (net .disconnects) k d (added .sound .disconnects) h .0;
         disconnected = λ k d h. each-at Ends (net .disconnects) k d (added .sound .disconnects) h .1;
       }
     where
+      all-inside : AllInside (net .vars) (net .relations)
+      all-inside = λ k h. each-at (Inside (net .vars)) (net .relations) k _ (added .sound .relations) h
+
       most : Sized (replicate (lengthOf c) 0) c
       most = within-sized (replicate (lengthOf c) 0) c (f .counted) (length-replicate (lengthOf c) 0)
