@@ -1,3 +1,11 @@
 pub mod Computed
+pub mod Fitting
+pub mod Flat
+pub mod Formed
+pub mod Keeping
+pub mod Members
+pub mod Sound
+pub mod Source
 pub mod Starred
+pub mod Whole
 pub mod Worked
