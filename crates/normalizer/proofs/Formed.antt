@@ -21,7 +21,7 @@ use Rattle.wellformed.specs.WellFormed.{WellFormed, layerFits, interfaceFits, s
 use Rattle.normalizer.specs.Layered.{Layered}
 use Rattle.normalizer.specs.Normalize.{begun, normalized, unwrap, normalize}
 use Rattle.normalizer.proofs.Fitting.{interface-fits-on}
-use Rattle.normalizer.proofs.Keeping.{roots-keep}
+use Rattle.normalizer.proofs.FactsKept.{roots-keep}
 use Rattle.normalizer.proofs.Members.{both-true, all-none, all-one, all-join, all-at, all-from, all-imp, all-concat, Holds, holds-first}
 use Rattle.normalizer.proofs.Sound.{single, Good, Facts, stages-grow}
 use Rattle.normalizer.proofs.Whole.{whole}

@@ -2,7 +2,7 @@ pub mod Computed
 pub mod Fitting
 pub mod Flat
 pub mod Formed
-pub mod Keeping
+pub mod FactsKept
 pub mod Members
 pub mod Sound
 pub mod Source
