@@ -1,11 +1,16 @@
+pub mod Calls
 pub mod Computed
+pub mod Divergences
+pub mod Each
+pub mod FactsKept
 pub mod Fitting
 pub mod Flat
 pub mod Formed
-pub mod FactsKept
+pub mod Layering
 pub mod Members
 pub mod Sound
 pub mod Source
+pub mod Splits
 pub mod Starred
 pub mod Whole
 pub mod Worked
