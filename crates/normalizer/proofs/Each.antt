@@ -1,7 +1,7 @@
 -- Loops over lists, by what stands in them.
-use mathlib.Core.Path.{_≡_, _∙_, refl, ap, subst}
+use mathlib.Core.Path.{_≡_, _∙_, refl, sym, ap, subst}
 use mathlib.Core.Bool.{Bool, true}
-use mathlib.Core.List.{List, [], _∷_, _++_, List·Memᴰ, List·Memᴰ·head, List·Memᴰ·tail, Memᴰ·append-left, Memᴰ·append-right}
+use mathlib.Core.List.{List, [], _∷_, _++_, List·Memᴰ, List·Memᴰ·head, List·Memᴰ·tail, Memᴰ·append-left, Memᴰ·append-right, append-nil, append-assoc}
 use Prim.Native.Nat.{ℕ, zero, suc, _<_}
 use native.Mathlib.Nat.{not-suc-le-zero, le-of-suc-le-suc}
 use lib.ListN.{length, getD}
@@ -46,3 +46,18 @@ module _ {A S : Type 0} where
   unfolding each concat
   each-concat f g [] s = refl
   each-concat f g (x ∷ xs) s = each-append f (g x) (concat g xs) s ∙ each-concat f g xs (each f (g x) s)
+
+  pub each-keeps : (P : S → Type 0) (f : A → S → S) (xs : List A) → ((x : A) (s : S) → P s → P (f x s)) → (s : S) → P s → P (each f xs s)
+  unfolding each
+  each-keeps P f [] h s i = i
+  each-keeps P f (x ∷ xs) h s i = each-keeps P f xs h (f x s) (h x s i)
+
+  -- a property with a list that grows by what each turn adds
+  pub each-grows : {B : Type 0} (P : List B → S → Type 0) (f : A → S → S) (g : A → List B) (xs : List A)
+      → ((x : A) → List·Memᴰ x xs → (b : List B) (s : S) → P b s → P (b ++ g x) (f x s)) → (b : List B) (s : S) → P b s
+      → P (b ++ concat g xs) (each f xs s)
+  unfolding each concat
+  each-grows {B} P f g [] h b s i = subst (λ (c : List B). P c s) (sym (append-nil b)) i
+  each-grows {B} P f g (x ∷ xs) h b s i =
+      subst (λ (c : List B). P c (each f xs (f x s))) (append-assoc b (g x) (concat g xs))
+      (each-grows P f g xs (λ y m. h y (List·Memᴰ·tail m)) (b ++ g x) (f x s) (h x (List·Memᴰ·head refl) b s i))

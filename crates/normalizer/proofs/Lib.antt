@@ -1,11 +1,14 @@
 pub mod Calls
 pub mod Computed
+pub mod Counted
 pub mod Divergences
 pub mod Each
 pub mod FactsKept
 pub mod Fitting
 pub mod Flat
 pub mod Formed
+pub mod Keeping
+pub mod Kept
 pub mod Layering
 pub mod Members
 pub mod Sound
