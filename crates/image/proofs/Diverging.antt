@@ -24,7 +24,7 @@ use Rattle.records.proofs.Guards.{left-true, right-true}
 use Rattle.image.proofs.Steps.{diverge-one, diverge-none}
 use Rattle.image.proofs.Viewing.{length-layers, length-stages, stage-at}
 
-occurrences-append : (t : ℕ) (a b : List ℕ) → occurrences t (a ++ b) ≡ occurrences t a + occurrences t b
+pub occurrences-append : (t : ℕ) (a b : List ℕ) → occurrences t (a ++ b) ≡ occurrences t a + occurrences t b
 unfolding occurrences
 occurrences-append t [] b = omega arith
 occurrences-append t (x ∷ a) b = omega (arith, occurrences-append t a b)

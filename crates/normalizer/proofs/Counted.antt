@@ -11,13 +11,10 @@ use lib.Seq.{getD-append-seam, getD-set-same, getD-set-other}
 use borrow.Author.Tests.{eq-eqb, ne-eqb, eqb-true, eqb-false, ltb-true, ltb-false}
 use Rattle.image.specs.Kind.{occurrences}
 use Rattle.image.specs.Vir.{Stage, Vir}
+use Rattle.image.proofs.Diverging.{occurrences-append}
 use Rattle.normalizer.specs.Normalize.{begun}
 use Rattle.normalizer.proofs.Keeping.{Keeping}
-
-occurrences-append : (t : ℕ) (a b : List ℕ) → occurrences t (a ++ b) ≡ occurrences t a + occurrences t b
-unfolding occurrences
-occurrences-append t [] b = omega arith
-occurrences-append t (x ∷ a) b = omega (arith, occurrences-append t a b)
+use Rattle.normalizer.proofs.Occurrences.{at-self, at-other}
 
 -- how many stages are put at a number
 abbrev pub putAt : List (List Stage) → ℕ → ℕ
@@ -29,14 +26,6 @@ pub record Counted (n : ℕ) (b q : List ℕ) (ts : List (List Stage)) : Type 0 
   pub old : (s : ℕ) → s < n → putAt ts s + occurrences s q ≡ occurrences s b
   pub new : (s : ℕ) → n ≤ s → s < length ts → putAt ts s + occurrences s q ≡ 1
   pub free : (s : ℕ) → length ts ≤ s → occurrences s q ≡ 0
-
-at-self : (x : ℕ) (xs : List ℕ) → occurrences x (x ∷ xs) ≡ 1 + occurrences x xs
-unfolding occurrences
-at-self x xs = ap (λ (b : Bool). cond b 1 0 + occurrences x xs) (eq-eqb x x refl)
-
-at-other : (s x : ℕ) (xs : List ℕ) → (x ≡ s → ⊥) → occurrences s (x ∷ xs) ≡ occurrences s xs
-unfolding occurrences
-at-other s x xs h = ap (λ (b : Bool). cond b 1 0 + occurrences s xs) (ne-eqb x s h) ∙ zero-add (occurrences s xs)
 
 module _ {n : ℕ} {b q : List ℕ} {ts : List (List Stage)} where
   counted-begin : (t : ℕ) → t < n → Counted n b q ts → Counted n (b ++ (t ∷ [])) (t ∷ q) ts

@@ -10,10 +10,15 @@ pub mod Formed
 pub mod Keeping
 pub mod Kept
 pub mod Layering
+pub mod Lines
 pub mod Members
+pub mod Occurrences
+pub mod Once
+pub mod Owners
 pub mod Sound
 pub mod Source
 pub mod Splits
 pub mod Starred
+pub mod Sums
 pub mod Whole
 pub mod Worked
