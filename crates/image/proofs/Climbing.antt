@@ -19,7 +19,7 @@ use Rattle.records.proofs.Every.{every-at}
 use Rattle.image.proofs.Fields.{parent-at}
 use Rattle.image.proofs.Viewing.{length-layers}
 
-abbrev parentOf : Vir → ℕ → ℕ
+abbrev pub parentOf : Vir → ℕ → ℕ
 parentOf v l = layerOf v l .parent
 
 -- one step of the climb: the layer is the outer one, or is a root, or its parent answers
@@ -42,7 +42,7 @@ module _ (v : Vir) (outer : ℕ) where
   within-root (suc n) l h e = within-step n l (ne-eqb l outer h) (eq-eqb (parentOf v l) none e)
 
 module _ (v : Vir) (below : parentsBelow v ≡ true) where
-  parent-below : (l : ℕ) → l < length (v .layers) → (parentOf v l ≡ none → ⊥) → parentOf v l < l
+  pub parent-below : (l : ℕ) → l < length (v .layers) → (parentOf v l ≡ none → ⊥) → parentOf v l < l
   parent-below l h e =
       ltb-true (parentOf v l) l
       (sym (ap (λ (b : Bool). b || ltb (parentOf v l) l) (ne-eqb (parentOf v l) none e))

@@ -12,11 +12,12 @@ use Rattle.vir.specs.Ids.{none}
 use Rattle.image.specs.LayerRules.{transferTo}
 use Rattle.image.specs.Loops.{each}
 use Rattle.image.specs.Vir.{Action, Layer, Stage, Vir, layerOf, stageOf}
+use Rattle.image.proofs.Climbing.{parentOf}
 use Rattle.normalizer.specs.Divergence.{subLayer, stepDivergence, layerDivergence}
 use Rattle.normalizer.specs.Layered.{Layered}
 use Rattle.normalizer.specs.Normalize.{Normalizer, Piece, ended, goOn, jump, normalizeLayer, normalizeStage, opened, pushStep, setFinal, splitAt, stepped}
 use Rattle.normalizer.proofs.Each.{each-cong}
-use Rattle.normalizer.proofs.Layering.{parentOf, no-layer, lists, few-layers, child-above}
+use Rattle.normalizer.proofs.Layering.{no-layer, lists, few-layers, child-above}
 use Rattle.normalizer.proofs.Splits.{split-enters, prepared, resumed, split-is}
 
 module _ (v : Vir) where

@@ -12,10 +12,11 @@ use Rattle.vir.specs.Ids.{none}
 use Rattle.image.specs.LayerRules.{transferTo, divergeTo}
 use Rattle.image.specs.Loops.{each}
 use Rattle.image.specs.Vir.{Layer, Vir, layerOf, stageOf}
+use Rattle.image.proofs.Climbing.{parentOf}
 use Rattle.normalizer.specs.Divergence.{subLayer, stepDivergence, stepsOf, layerDivergence}
 use Rattle.normalizer.specs.Layered.{Layered}
 use Rattle.normalizer.proofs.Each.{each-cong, each-concat}
-use Rattle.normalizer.proofs.Layering.{parentOf, no-layer, child-above}
+use Rattle.normalizer.proofs.Layering.{no-layer, child-above}
 
 module _ (v : Vir) where
   step-agree : (f g : ℕ → ℕ) (s : Step)

@@ -13,11 +13,12 @@ use Rattle.image.specs.Kind.{concat}
 use Rattle.image.specs.LayerRules.{transferTo}
 use Rattle.image.specs.Loops.{each}
 use Rattle.image.specs.Vir.{Action, Layer, Local, Stage, Vir, layerOf, stageOf}
+use Rattle.image.proofs.Climbing.{parentOf}
 use Rattle.normalizer.specs.Divergence.{subLayer, stepDivergence, layerDivergence}
 use Rattle.normalizer.specs.Layered.{Layered}
 use Rattle.normalizer.specs.Normalize.{Normalizer, Piece, carry, begun, goOn, normalizeLayer, normalizeStage, normalized, opened, pushLocal, pushPiece, putStage, roots, setFinal, splitAt, stepped}
 use Rattle.normalizer.proofs.Each.{each-keeps, each-grows}
-use Rattle.normalizer.proofs.Layering.{parentOf, lists, few-layers, listed-exists}
+use Rattle.normalizer.proofs.Layering.{lists, few-layers, listed-exists}
 use Rattle.normalizer.proofs.Splits.{split-enters, prepared, split-is}
 
 -- the layers with a parent that a step enters

@@ -17,13 +17,11 @@ use Rattle.image.specs.Kind.{all, concat, occurrences}
 use Rattle.image.specs.LayerRules.{parentsBelow, listedByOwnLayer, listedOnce, interfacesLie, enteredFromParent, enteredOnce, entries, transferTo, layerRules}
 use Rattle.image.specs.Vir.{Action, Layer, Vir, layerOf, stageOf}
 use Rattle.image.proofs.Answering.{within-sized}
+use Rattle.image.proofs.Climbing.{parentOf, parent-below}
 use Rattle.wellformed.specs.WellFormed.{layerFits}
 use Rattle.normalizer.specs.Divergence.{subLayer}
 use Rattle.normalizer.specs.Layered.{Layered}
 use Rattle.normalizer.proofs.Each.{all-at, member-at, member-concat}
-
-abbrev pub parentOf : Vir → ℕ → ℕ
-parentOf v l = layerOf v l .parent
 
 -- a test behind one that fails
 second : (a b : Bool) → a ≡ false → (a || b) ≡ true → b ≡ true
@@ -70,11 +68,8 @@ module _ (v : Vir) (w : Layered v) where
   two = left-true _ (listedOnce v) (left-true _ (interfacesLie v) four)
 
   -- a parent's number is below its child's
-  pub parent-below : (l : ℕ) → (parentOf v l ≡ none → ⊥) → parentOf v l < l
-  parent-below l h =
-      ltb-true _ _
-      (second _ _ (ne-eqb _ _ h)
-      (every-at (λ (k : ℕ). eqb (parentOf v k) none || ltb (parentOf v k) k) (length (v .layers)) l (left-true (parentsBelow v) _ two) (parented v l h)))
+  pub parent-lower : (l : ℕ) → (parentOf v l ≡ none → ⊥) → parentOf v l < l
+  parent-lower l h = parent-below v (left-true (parentsBelow v) _ two) l (parented v l h) h
 
   -- a stage that a layer lists exists, and has that layer in its own field
   pub listed-exists : (l : ℕ) {t : ℕ} → List·Memᴰ t (layerOf v l .stages) → t < length (v .stages)
@@ -131,4 +126,4 @@ module _ (v : Vir) (w : Layered v) where
         ∙ listed-own l listed
 
     pub child-above : l < subLayer v i
-    child-above = omega (arith, parent-below (subLayer v i) child, child-parent)
+    child-above = omega (arith, parent-lower (subLayer v i) child, child-parent)

@@ -15,6 +15,7 @@ pub mod Members
 pub mod Occurrences
 pub mod Once
 pub mod Owners
+pub mod Roots
 pub mod Sound
 pub mod Source
 pub mod Splits

@@ -1,23 +1,24 @@
 -- Normalising begins each source stage once: the layers that lead to it are its own and those that this lies in, each entered once.
 use mathlib.Core.Path.{_≡_, _∙_, refl, sym, ap, ap₂, subst}
-use mathlib.Core.Bool.{Bool, true, false, cond}
-use mathlib.Core.List.{List, [], _∷_, List·Memᴰ, List·Memᴰ·not-nil, List·Memᴰ·cases-cons}
-use mathlib.Core.Logic.{_⊎_, inl, inr}
+use mathlib.Core.Bool.{Bool, true, false}
+use mathlib.Core.List.{List, [], _∷_, List·Memᴰ}
 use Prim.Native.Nat.{ℕ, zero, suc, _+_, _<_, _≤_}
-use native.Mathlib.Nat.{not-suc-le-zero, le-of-suc-le-suc, zero-add, add-comm}
+use native.Mathlib.Nat.{not-suc-le-zero, zero-add, add-comm}
 use native.Mathlib.Omega.{arith}
 use lib.Dec.{eqb}
-use lib.ListN.{length, getD}
-use borrow.Author.Tests.{eq-eqb, ne-eqb, eqb-true, eqb-false}
+use lib.ListN.{length}
+use borrow.Author.Tests.{eqb-true, eqb-false}
 use Rattle.vir.specs.Ids.{none}
 use Rattle.image.specs.Kind.{concat, occurrences}
-use Rattle.image.specs.Vir.{Layer, Vir, layerOf, stageOf}
+use Rattle.image.specs.Vir.{Vir, layerOf, stageOf}
+use Rattle.image.proofs.Climbing.{parentOf}
 use Rattle.normalizer.specs.Layered.{Layered}
 use Rattle.normalizer.proofs.Keeping.{children, begins, rootsFrom, concat-concat}
-use Rattle.normalizer.proofs.Layering.{parentOf, parented, parent-below}
-use Rattle.normalizer.proofs.Occurrences.{at-self, at-other, absent, member-occurs}
+use Rattle.normalizer.proofs.Layering.{parented, parent-lower}
+use Rattle.normalizer.proofs.Occurrences.{member-occurs}
 use Rattle.normalizer.proofs.Owners.{enteredIn, enteredBy, owner-exists, listed-in, root-never, child-once, entered-above}
-use Rattle.normalizer.proofs.Sums.{total, one, one-same, one-apart, total-cong, total-zero, total-add, total-one, total-cons, total-none, occurrences-nil, occurrences-cons, occurrences-concat}
+use Rattle.normalizer.proofs.Roots.{roots-at, roots-exist}
+use Rattle.normalizer.proofs.Sums.{total, one, one-same, one-apart, total-cong, total-add, total-one, total-cons, total-none, occurrences-nil, occurrences-cons, occurrences-concat}
 
 -- a layer and those that it lies in
 unfoldable line : ℕ → Vir → ℕ → List ℕ
@@ -69,7 +70,7 @@ module _ (v : Vir) where
             let child : parentOf v x ≡ none → ⊥ = eqb-false _ _ e in
             let rest : List ℕ = line k v (parentOf v x) in
             subst Agrees (sym (line-child k x e))
-            (omega (arith, total-cons x (enteredBy v l) rest, occurrences-cons l x rest, child-once v x l w child, r (parent-below v w x child)))
+            (omega (arith, total-cons x (enteredBy v l) rest, occurrences-cons l x rest, child-once v x l w child, r (parent-lower v w x child)))
 
     -- normalising a layer begins a stage as often as the layer stands in the stage's line
     module _ (s : ℕ) (h : s < length (v .stages)) where
@@ -92,52 +93,6 @@ module _ (v : Vir) where
               let child : parentOf v m ≡ none → ⊥ = λ e. omega (arith, member-occurs stands, root-never v m l e) in
               r (entered-above v m l w child stands) (parented v m child)
 
--- the roots from l on: none below l, and of the others those without a parent
-roots-early : (l x : ℕ) (xs : List Layer) → x < l → occurrences x (rootsFrom l xs) ≡ 0
-unfolding rootsFrom
-roots-early l x [] h = occurrences-nil x
-roots-early l x (y ∷ ys) h = go (eqb (y .parent) none) (roots-early (suc l) x ys (omega arith))
-  where
-    go : (b : Bool) → occurrences x (rootsFrom (suc l) ys) ≡ 0
-        → occurrences x (elim b [ true ↦ l ∷ rootsFrom (suc l) ys | false ↦ rootsFrom (suc l) ys ]) ≡ 0
-    go true r = at-other x l (rootsFrom (suc l) ys) (λ e. omega arith) ∙ r
-    go false r = r
-
-roots-at : (l k : ℕ) (xs : List Layer) → k < length xs
-    → occurrences (l + k) (rootsFrom l xs) ≡ one (getD xs k (record { parent = none; stages = [] }) .parent) none
-unfolding rootsFrom
-roots-at l k [] h = absurd (not-suc-le-zero h)
-roots-at l zero (y ∷ ys) h = go (eqb (y .parent) none) (roots-early (suc l) (l + 0) ys (omega arith))
-  where
-    go : (b : Bool) → occurrences (l + 0) (rootsFrom (suc l) ys) ≡ 0
-        → occurrences (l + 0) (elim b [ true ↦ l ∷ rootsFrom (suc l) ys | false ↦ rootsFrom (suc l) ys ]) ≡ cond b 1 0
-    go true r = omega (arith, occurrences-cons (l + 0) l (rootsFrom (suc l) ys), one-same l (l + 0) (omega arith))
-    go false r = r
-roots-at l (suc k) (y ∷ ys) h =
-    go (eqb (y .parent) none)
-    (ap (λ (n : ℕ). occurrences n (rootsFrom (suc l) ys)) (omega arith) ∙ roots-at (suc l) k ys (le-of-suc-le-suc h))
-  where
-    go : (b : Bool)
-        → occurrences (l + suc k) (rootsFrom (suc l) ys) ≡ one (getD ys k (record { parent = none; stages = [] }) .parent) none
-        → occurrences (l + suc k) (elim b [ true ↦ l ∷ rootsFrom (suc l) ys | false ↦ rootsFrom (suc l) ys ])
-        ≡ one (getD ys k (record { parent = none; stages = [] }) .parent) none
-    go true r = at-other (l + suc k) l (rootsFrom (suc l) ys) (λ e. omega arith) ∙ r
-    go false r = r
-
-roots-exist : (l : ℕ) {x : ℕ} (xs : List Layer) → List·Memᴰ x (rootsFrom l xs) → x < l + length xs
-unfolding rootsFrom
-roots-exist l [] m = absurd (List·Memᴰ·not-nil m)
-roots-exist l {x} (y ∷ ys) m = go (eqb (y .parent) none) m (λ (m : List·Memᴰ x (rootsFrom (suc l) ys)). roots-exist (suc l) ys m)
-  where
-    go : (b : Bool) → List·Memᴰ x (elim b [ true ↦ l ∷ rootsFrom (suc l) ys | false ↦ rootsFrom (suc l) ys ])
-        → (List·Memᴰ x (rootsFrom (suc l) ys) → x < suc l + length ys) → x < l + length (y ∷ ys)
-    go true m r = cases (List·Memᴰ·cases-cons m)
-      where
-        cases : (x ≡ l) ⊎ List·Memᴰ x (rootsFrom (suc l) ys) → x < l + length (y ∷ ys)
-        cases (inl e) = omega arith
-        cases (inr m) = omega (arith, r m)
-    go false m r = omega (arith, r m)
-
 module _ (v : Vir) (w : Layered v) where
   -- one root in each line
   roots-in-line : (k x : ℕ) → x < k → x < length (v .layers) → total (λ r. occurrences r (line k v x)) (rootsFrom 0 (v .layers)) ≡ 1
@@ -159,7 +114,7 @@ module _ (v : Vir) (w : Layered v) where
           let child : parentOf v x ≡ none → ⊥ = eqb-false _ _ e in
           subst One (sym (line-child v k x e))
           (omega
-          (arith, total-cons x (rootsFrom 0 (v .layers)) (line k v (parentOf v x)), root, one-apart (parentOf v x) none child, r (parent-below v w x child)))
+          (arith, total-cons x (rootsFrom 0 (v .layers)) (line k v (parentOf v x)), root, one-apart (parentOf v x) none child, r (parent-lower v w x child)))
 
   pub begun-once : (s : ℕ) → s < length (v .stages)
       → occurrences s (concat (begins (length (v .layers)) v) (rootsFrom 0 (v .layers))) ≡ 1

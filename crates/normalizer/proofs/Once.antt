@@ -1,14 +1,14 @@
 -- Every stage of the result is set exactly once.
-use mathlib.Core.Path.{_≡_, _∙_, refl, sym, ap, ap₂}
+use mathlib.Core.Path.{_≡_, refl, ap₂}
 use mathlib.Core.Bool.{Bool, true, false, _&&_}
 use mathlib.Core.List.{List, [], _∷_}
-use Prim.Native.Nat.{ℕ, zero, suc, _+_, _<_}
+use Prim.Native.Nat.{ℕ, suc, _<_}
 use native.Mathlib.Omega.{arith}
 use lib.Dec.{eqb, ltb}
 use lib.ListN.{length, getD}
 use borrow.Author.Tests.{eq-eqb, ltb-true, ltb-false}
-use Rattle.image.specs.Kind.{all, concat, occurrences}
-use Rattle.image.specs.Vir.{Stage, Vir}
+use Rattle.image.specs.Kind.{all, concat}
+use Rattle.image.specs.Vir.{Vir}
 use Rattle.normalizer.specs.Layered.{Layered}
 use Rattle.normalizer.specs.Normalize.{normalized}
 use Rattle.normalizer.proofs.Counted.{Counted, putAt, counted-keeping, counted-start}

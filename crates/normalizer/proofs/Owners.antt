@@ -2,21 +2,21 @@
 use mathlib.Core.Path.{_≡_, _∙_, refl, sym, ap, subst}
 use mathlib.Core.Bool.{Bool, true, false}
 use mathlib.Core.List.{List, [], _∷_, List·Memᴰ}
-use Prim.Native.Nat.{ℕ, zero, suc, _+_, _*_, _<_, _≤_}
+use Prim.Native.Nat.{ℕ, _*_, _<_, _≤_}
 use native.Mathlib.Nat.{one-mul, mul-zero}
 use native.Mathlib.Omega.{arith}
 use lib.Dec.{eqb, ltb}
 use lib.ListN.{length}
 use borrow.Author.Tests.{eqb-true, eqb-false, ltb-true, ltb-false}
-use Rattle.vir.specs.declared.step.Step.{Step}
 use Rattle.vir.specs.Ids.{none}
 use Rattle.image.specs.Kind.{concat, occurrences}
 use Rattle.image.specs.LayerRules.{transferTo, entries}
-use Rattle.image.specs.Vir.{Action, Layer, Stage, Vir, layerOf, stageOf}
+use Rattle.image.specs.Vir.{Vir, layerOf, stageOf}
+use Rattle.image.proofs.Climbing.{parentOf}
 use Rattle.normalizer.specs.Divergence.{subLayer}
 use Rattle.normalizer.specs.Layered.{Layered}
 use Rattle.normalizer.proofs.Keeping.{childOf, children}
-use Rattle.normalizer.proofs.Layering.{parentOf, listed-exists, listed-own, listed-once, entered-from, entered-once, parent-below}
+use Rattle.normalizer.proofs.Layering.{listed-exists, listed-own, listed-once, entered-from, entered-once, parent-lower}
 use Rattle.normalizer.proofs.Occurrences.{at-other, absent, member-occurs}
 use Rattle.normalizer.proofs.Sums.{total, below, one, one-same, one-apart, total-cong, total-zero, occurrences-concat, below-cong, below-zero, below-only, total-places, total-numbers}
 
@@ -134,5 +134,5 @@ module _ (v : Vir) (x l : ℕ) where
     entered-above m = go (eqb (parentOf v x) l) refl
       where
         go : (b : Bool) → eqb (parentOf v x) l ≡ b → l < x
-        go true e = omega (arith, eqb-true (parentOf v x) l e, parent-below v w x child)
+        go true e = omega (arith, eqb-true (parentOf v x) l e, parent-lower v w x child)
         go false e = absurd (omega (arith, member-occurs m, child-once, one-apart (parentOf v x) l (eqb-false (parentOf v x) l e)))

@@ -13,9 +13,9 @@ use Rattle.vir.specs.Ids.{none}
 use Rattle.image.specs.LayerRules.{transferTo}
 use Rattle.image.specs.Loops.{each}
 use Rattle.image.specs.Vir.{Action, Stage, Vir}
+use Rattle.image.proofs.Climbing.{parentOf}
 use Rattle.normalizer.specs.Divergence.{subLayer, stepDivergence}
 use Rattle.normalizer.specs.Normalize.{Jumped, Normalizer, Piece, Split, carry, jump, newStage, pushPiece, pushSteps, putStage, setFinal, splitAt}
-use Rattle.normalizer.proofs.Layering.{parentOf}
 
 -- the step that enters an interface is a Transfer to it
 enters-transfer : (s : Step) {i : ℕ} → List·Memᴰ i (transferTo s) → s ≡ Transfer (record { 0 = i })
