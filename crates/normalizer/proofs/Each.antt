@@ -1,4 +1,4 @@
--- Loops over lists, by what stands in them.
+-- Lists one behind the other, and loops over lists, by what stands in them.
 use mathlib.Core.Path.{_≡_, _∙_, refl, sym, ap, subst}
 use mathlib.Core.Bool.{Bool, true}
 use mathlib.Core.List.{List, [], _∷_, _++_, List·Memᴰ, List·Memᴰ·head, List·Memᴰ·tail, Memᴰ·append-left, Memᴰ·append-right, append-nil, append-assoc}
@@ -27,6 +27,17 @@ module _ {A : Type 0} where
     member-concat {y = y} g (List·Memᴰ·head {x = z} {xs} e) m =
         Memᴰ·append-left (concat g xs) (subst (λ (w : A). List·Memᴰ y (g w)) e m)
     member-concat g (List·Memᴰ·tail {x = z} {xs} k) m = Memᴰ·append-right (g z) (member-concat g k m)
+
+module _ {B C : Type 0} (f : B → List C) where
+  concat-append : (xs ys : List B) → concat f (xs ++ ys) ≡ concat f xs ++ concat f ys
+  unfolding concat
+  concat-append [] ys = refl
+  concat-append (x ∷ xs) ys = ap (λ (l : List C). f x ++ l) (concat-append xs ys) ∙ sym (append-assoc (f x) (concat f xs) (concat f ys))
+
+  pub concat-concat : {A : Type 0} (g : A → List B) (xs : List A) → concat (λ x. concat f (g x)) xs ≡ concat f (concat g xs)
+  unfolding concat
+  concat-concat g [] = refl
+  concat-concat g (x ∷ xs) = ap (λ (l : List C). concat f (g x) ++ l) (concat-concat g xs) ∙ sym (concat-append (g x) (concat g xs))
 
 module _ {A S : Type 0} where
   -- bodies that agree on what stands in the list

@@ -17,7 +17,7 @@ use Rattle.image.proofs.Climbing.{parentOf}
 use Rattle.normalizer.specs.Divergence.{subLayer, stepDivergence, layerDivergence}
 use Rattle.normalizer.specs.Layered.{Layered}
 use Rattle.normalizer.specs.Normalize.{Normalizer, Piece, carry, begun, goOn, normalizeLayer, normalizeStage, normalized, opened, pushLocal, pushPiece, putStage, roots, setFinal, splitAt, stepped}
-use Rattle.normalizer.proofs.Each.{each-keeps, each-grows}
+use Rattle.normalizer.proofs.Each.{concat-concat, each-keeps, each-grows}
 use Rattle.normalizer.proofs.Layering.{lists, few-layers, listed-exists}
 use Rattle.normalizer.proofs.Splits.{split-enters, prepared, split-is}
 
@@ -38,7 +38,7 @@ unfoldable pub rootsFrom : ℕ → List Layer → List ℕ
 rootsFrom l [] = []
 rootsFrom l (x ∷ xs) = elim (eqb (x .parent) none) [ true ↦ l ∷ rootsFrom (suc l) xs | false ↦ rootsFrom (suc l) xs ]
 
--- a property of the normalizer, of the source stages begun so far and of the pieces at work
+-- P b q n says something of the normalizer n, the source stages b begun so far and the pieces q at work, and every change keeps it
 pub record Keeping (v : Vir) (P : List ℕ → List ℕ → Normalizer → Type 0) : Type 0 where
   pub begin : (b q : List ℕ) (n : Normalizer) (t : ℕ) → t < length (v .stages) → P b q n → P (b ++ (t ∷ [])) (t ∷ q) n
   pub push : (b q : List ℕ) (n : Normalizer) → P b q n → P b (length (n .stages) ∷ q) (pushPiece n)
@@ -46,17 +46,6 @@ pub record Keeping (v : Vir) (P : List ℕ → List ℕ → Normalizer → Type 
   pub put : (b q : List ℕ) (n : Normalizer) (id : ℕ) (t : Stage) → P b (id ∷ q) n → P b q (putStage id t n)
   pub local : (b q : List ℕ) (n : Normalizer) (x : Local) → P b q n → P b q (pushLocal x n)
   pub final : (b q : List ℕ) (n : Normalizer) (l i : ℕ) → P b q n → P b q (setFinal l i n)
-
-module _ {B C : Type 0} (f : B → List C) where
-  concat-append : (xs ys : List B) → concat f (xs ++ ys) ≡ concat f xs ++ concat f ys
-  unfolding concat
-  concat-append [] ys = refl
-  concat-append (x ∷ xs) ys = ap (λ (l : List C). f x ++ l) (concat-append xs ys) ∙ sym (append-assoc (f x) (concat f xs) (concat f ys))
-
-  pub concat-concat : {A : Type 0} (g : A → List B) (xs : List A) → concat (λ x. concat f (g x)) xs ≡ concat f (concat g xs)
-  unfolding concat
-  concat-concat g [] = refl
-  concat-concat g (x ∷ xs) = ap (λ (l : List C). concat f (g x) ++ l) (concat-concat g xs) ∙ sym (concat-append (g x) (concat g xs))
 
 -- the Rust's loop over all layers runs through those without a parent
 roots-each : (v : Vir) (l : ℕ) (xs : List Layer) (n : Normalizer)

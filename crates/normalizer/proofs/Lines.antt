@@ -13,7 +13,8 @@ use Rattle.image.specs.Kind.{concat, occurrences}
 use Rattle.image.specs.Vir.{Vir, layerOf, stageOf}
 use Rattle.image.proofs.Climbing.{parentOf}
 use Rattle.normalizer.specs.Layered.{Layered}
-use Rattle.normalizer.proofs.Keeping.{children, begins, rootsFrom, concat-concat}
+use Rattle.normalizer.proofs.Each.{concat-concat}
+use Rattle.normalizer.proofs.Keeping.{children, begins, rootsFrom}
 use Rattle.normalizer.proofs.Layering.{parented, parent-lower}
 use Rattle.normalizer.proofs.Occurrences.{member-occurs}
 use Rattle.normalizer.proofs.Owners.{enteredIn, enteredBy, owner-exists, listed-in, root-never, child-once, entered-above}
@@ -49,7 +50,7 @@ module _ (v : Vir) where
       ∙ occurrences-concat s (begins k v) (enteredBy v l))
 
   module _ (w : Layered v) where
-    -- of the layers that l's steps enter, those in a line are as many as those in it that lie in l
+    -- a layer stands in a line as often as those that its steps enter, and once more if the line starts with it
     entered-in-line : (k x l : ℕ) → x < k
         → total (λ m. occurrences m (line k v x)) (enteredBy v l) + one x l ≡ occurrences l (line k v x)
     entered-in-line zero x l h = absurd (not-suc-le-zero h)
