@@ -48,7 +48,7 @@ module _ (v : Vir) where
     kind-breaks h r = sym (λ i. byKind (ne-eqb _ _ some i) (ne-eqb _ _ h i) (r i))
 
 -- what remains when no record is at fault
-abbrev byOwner : Bool → ℕ → Answer → Answer
+abbrev pub byOwner : Bool → ℕ → Answer → Answer
 byOwner all-owned place then = elim all-owned [ true ↦ then | false ↦ refused 6 place ]
 
 module _ (s : List ℕ) (c : Counts) (r : Running) where
@@ -59,7 +59,7 @@ module _ (s : List ℕ) (c : Counts) (r : Running) where
   records-unowned h = sym (ap (λ (b : Bool). byOwner b (length s) (kindAnswer (viewOf s c))) h)
 
 -- the answer by the header's tests
-abbrev byHeader : Bool → Bool → Bool → Bool → Answer → Answer
+abbrev pub byHeader : Bool → Bool → Bool → Bool → Answer → Answer
 byHeader short mark count long then =
     elim short [
       | true ↦ refused 2 0
@@ -75,10 +75,10 @@ byHeader short mark count long then =
     ]
 
 module _ (s : List ℕ) where
-  abbrev records : Answer
+  abbrev pub records : Answer
   records = recordAnswer s (countsOf s) (walkAll s (countsOf s) sections (record { refs = 0; steps = 0; ports = 0 }))
 
-  by-tests : byHeader (ltb (length s) 21) (marked s) (within (countsOf s)) (eqb (length s) (lengthOf (countsOf s))) records ≡ checkOf s
+  pub by-tests : byHeader (ltb (length s) 21) (marked s) (within (countsOf s)) (eqb (length s) (lengthOf (countsOf s))) records ≡ checkOf s
   unfolding checkOf
   by-tests = refl
 

@@ -25,3 +25,4 @@ pub mod Tags
 pub mod Tallies
 pub mod Turns
 pub mod Viewing
+pub mod Written

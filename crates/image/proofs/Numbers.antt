@@ -20,7 +20,7 @@ module _ (s : List ℕ) (small : Bytes s) where
   spells-u16 p e {v} h q =
       lists-one (omega (arith, small p)) refl then lists-one (omega (arith, small p)) (omega arith)
 
-  half-below : (p : ℕ) → u16At s p < 65536
+  pub half-below : (p : ℕ) → u16At s p < 65536
   unfolding u16At
   half-below p = omega (arith, small p, small (p + 1))
 

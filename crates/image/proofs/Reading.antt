@@ -6,22 +6,18 @@ use Prim.Native.Nat.{ℕ, suc, _+_, _*_}
 use native.Mathlib.Nat.{zero-add, mul-zero, mul-suc, add-comm}
 use native.Mathlib.Omega.{arith}
 use lib.ListN.{length, length-append}
-use Rattle.vir.specs.Header.{headerOf}
-use Rattle.vir.specs.Interface.{kindOf}
-use Rattle.vir.specs.Port.{portOf}
-use Rattle.vir.specs.Step.{stepOf}
 use Rattle.records.specs.declared.layout.Counts.{Counts}
-use Rattle.records.specs.Bytes.{u8At, u16At, u32At}
-use Rattle.image.specs.Encode.{u16Bytes, layersBytes, interfacesBytes, stagesBytes, localBytes, flexBytes, actionsBytes, portBytes, stepA, stepB, portA, portB, allActions, stagePorts, allPorts, layerRefs, interfaceRefs, allRefs, countBytes, encode, plainStep, Plain}
+use Rattle.records.specs.Bytes.{u8At, u16At}
+use Rattle.image.specs.Encode.{u16Bytes, layersBytes, interfacesBytes, stagesBytes, localBytes, flexBytes, actionsBytes, portBytes, allActions, stagePorts, allPorts, layerRefs, interfaceRefs, allRefs, countsOfVir, countBytes, encode, plainStep, Plain}
 use Rattle.image.specs.Kind.{all, concat}
-use Rattle.records.specs.Layout.{countsOf, layersAt, interfacesAt, stagesAt, localsAt, typesAt, stepsAt, portsAt, refsAt}
-use Rattle.records.specs.Records.{runAt}
-use Rattle.image.specs.View.{headerIn, kindIn, portIn, stepIn, refsFrom, portsFrom, viewOf, view}
+use Rattle.records.specs.Layout.{countsOf, layersAt, interfacesAt, stagesAt, localsAt, typesAt, stepsAt, portsAt, refsAt, lengthOf}
+use Rattle.image.specs.View.{collect, headerIn, kindIn, portIn, stepIn, portOfRecord, actionOfRecord, layerOfRecord, interfaceOfRecord, stageOfRecord, localOfRecord, flexOfRecord, viewOf, view}
 use Rattle.image.specs.Vir.{Layer, Interface, Port, Action, Stage, Local, Flex, Vir}
 use Rattle.image.proofs.Gathered.{nthRef, nthPort, nthAction, nthFlex, nthLocal, nthStage, nthInterface, nthLayer}
 use Rattle.records.proofs.Guards.{left-true, right-true}
-use Rattle.image.proofs.Named.{kind-named, header-named, port-named, step-named}
-use Rattle.image.proofs.Standing.{Stands, stands-none, stands-next, stands-move, stands-left, stands-right, stands-past, stands-collect, stands-run, stands-whole, stands-concat, u8-in, u16-in, u32-in}
+use Rattle.image.proofs.Named.{kind-found, header-found, port-found, step-found}
+use Rattle.image.proofs.Standing.{Stands, stands-none, stands-next, stands-move, stands-left, stands-right, stands-past, stands-collect, stands-whole, stands-concat, u16-in}
+use Rattle.image.proofs.Written.{layer-written, interface-written, stage-written, local-written, type-written, step-written, port-written}
 
 -- what stands in a section is what is read from it
 module _ (s : List ℕ) (c : Counts) where
@@ -30,56 +26,33 @@ module _ (s : List ℕ) (c : Counts) where
       stands-concat s u16Bytes (nthRef s c) (λ k. refsAt c + 2 * k) (λ k n. omega arith) (λ k n y. u16-in s 0 y refl (omega arith)) 0 l
       (stands-move (omega arith) x)
 
-  port-read : (k : ℕ) (p : Port) → Stands (u8At s) (portsAt c + 9 * k) (portBytes p) → nthPort s c k ≡ p
-  port-read k p x =
-      let a : ℕ = portsAt c + 9 * k in
-      let ty : u16At s a ≡ p .ty = u16-in s 0 x refl (omega arith) in
-      let kind : u8At s (a + 2) ≡ _ = u8-in s 2 x refl refl in
-      let first : u32At s (a + 3) ≡ portA (p .kind) = u32-in s 3 x refl refl in
-      let second : u16At s (a + 7) ≡ portB (p .kind) = u16-in s 7 x refl refl in
-      let named : portIn (portOf (u8At s (a + 2)) (u32At s (a + 3)) (u16At s (a + 7))) ≡ p .kind =
-      (λ i. portIn (portOf (kind i) (first i) (second i))) ∙ port-named (p .kind) in
-      λ i. record { ty = ty i; kind = named i }
+  port-read : (k : ℕ) (y : Port) → Stands (u8At s) (portsAt c + 9 * k) (portBytes y) → nthPort s c k ≡ y
+  port-read k y x =
+      ap (portOfRecord s c) (port-written s (portsAt c + 9 * k) y x) ∙ (λ i. record { ty = y .ty; kind = portIn (port-found (y .kind) i) })
 
   ports-read : (l : List Port) → Stands (u8At s) (portsAt c) (concat portBytes l) → Stands (nthPort s c) 0 l
   ports-read l x =
       stands-concat s portBytes (nthPort s c) (λ k. portsAt c + 9 * k) (λ k p. omega arith) port-read 0 l (stands-move (omega arith) x)
 
-  local-read : (k : ℕ) (l : Local) → Stands (u8At s) (localsAt c + 7 * k) (localBytes l) → nthLocal s c k ≡ l
-  local-read k l x =
-      let a : ℕ = localsAt c + 7 * k in
-      let span : u32At s a ≡ l .span = u32-in s 0 x refl (omega arith) in
-      let ty : u16At s (a + 4) ≡ l .ty = u16-in s 4 x refl refl in
-      let flags : u8At s (a + 6) ≡ l .flags = u8-in s 6 x refl refl in
-      λ i. record { span = span i; ty = ty i; flags = flags i }
-
   locals-read : (l : List Local) → Stands (u8At s) (localsAt c) (concat localBytes l) → Stands (nthLocal s c) 0 l
   locals-read l x =
-      stands-concat s localBytes (nthLocal s c) (λ k. localsAt c + 7 * k) (λ k t. omega arith) local-read 0 l (stands-move (omega arith) x)
-
-  type-read : (k : ℕ) (t : Flex) → Stands (u8At s) (typesAt c + 2 * k) (flexBytes t) → nthFlex s c k ≡ t
-  type-read k t x =
-      let a : ℕ = typesAt c + 2 * k in
-      let upright : u8At s a ≡ t .upright = u8-in s 0 x refl (omega arith) in
-      let inverted : u8At s (a + 1) ≡ t .inverted = u8-in s 1 x refl refl in
-      λ i. record { upright = upright i; inverted = inverted i }
+      stands-concat s localBytes (nthLocal s c) (λ k. localsAt c + 7 * k) (λ k t. omega arith)
+      (λ k y z. ap localOfRecord (local-written s (localsAt c + 7 * k) y z)) 0 l (stands-move (omega arith) x)
 
   types-read : (l : List Flex) → Stands (u8At s) (typesAt c) (concat flexBytes l) → Stands (nthFlex s c) 0 l
   types-read l x =
-      stands-concat s flexBytes (nthFlex s c) (λ k. typesAt c + 2 * k) (λ k t. omega arith) type-read 0 l (stands-move (omega arith) x)
+      stands-concat s flexBytes (nthFlex s c) (λ k. typesAt c + 2 * k) (λ k t. omega arith)
+      (λ k y z. ap flexOfRecord (type-written s (typesAt c + 2 * k) y z)) 0 l (stands-move (omega arith) x)
 
   layers-read : (k refs : ℕ) (l : List Layer) → Stands (u8At s) (layersAt c + 6 * k) (layersBytes refs l)
       → Stands (nthRef s c) refs (concat (λ y. y .stages) l) → Stands (nthLayer s c) k l
   unfolding layersBytes concat
   layers-read k refs [] x r = stands-none
   layers-read k refs (y ∷ l) x r =
-      let a : ℕ = layersAt c + 6 * k in
       let more : List ℕ = concat (λ y. y .stages) l in
-      let parent : u16At s a ≡ y .parent = u16-in s 0 x refl (omega arith) in
-      let first : u16At s (a + 2) ≡ refs = u16-in s 2 x refl refl in
-      let count : u16At s (a + 2 + 2) ≡ length (y .stages) = u16-in s 4 x refl (omega arith) in
-      let stages : refsFrom s c (runAt s (a + 2)) ≡ y .stages = stands-run (stands-left (y .stages) more r) first count in
-      stands-next (λ i. record { parent = parent i; stages = stages i })
+      let stages : collect (nthRef s c) refs (length (y .stages)) ≡ y .stages = stands-collect (y .stages) (stands-left (y .stages) more r) in
+      stands-next
+      (ap (layerOfRecord s c) (layer-written s (layersAt c + 6 * k) refs y l x) ∙ (λ i. record { parent = y .parent; stages = stages i }))
       (layers-read (suc k) (refs + length (y .stages)) l (stands-past 6 x (omega arith)) (stands-right (y .stages) more r refl))
 
   interfaces-read : (k refs : ℕ) (l : List Interface) → Stands (u8At s) (interfacesAt c + 9 * k) (interfacesBytes refs l)
@@ -87,16 +60,11 @@ module _ (s : List ℕ) (c : Counts) where
   unfolding interfacesBytes concat
   interfaces-read k refs [] x r = stands-none
   interfaces-read k refs (y ∷ l) x r =
-      let a : ℕ = interfacesAt c + 9 * k in
       let more : List ℕ = concat (λ y. y .list) l in
-      let layer : u16At s a ≡ y .layer = u16-in s 0 x refl (omega arith) in
-      let kind : kindIn (kindOf (u8At s (a + 2))) ≡ y .kind =
-      ap (λ (n : ℕ). kindIn (kindOf n)) (u8-in s 2 x refl refl) ∙ kind-named (y .kind) in
-      let key : u16At s (a + 3) ≡ y .key = u16-in s 3 x refl refl in
-      let first : u16At s (a + 5) ≡ refs = u16-in s 5 x refl refl in
-      let count : u16At s (a + 5 + 2) ≡ length (y .list) = u16-in s 7 x refl (omega arith) in
-      let entries : refsFrom s c (runAt s (a + 5)) ≡ y .list = stands-run (stands-left (y .list) more r) first count in
-      stands-next (λ i. record { layer = layer i; kind = kind i; key = key i; list = entries i })
+      let entries : collect (nthRef s c) refs (length (y .list)) ≡ y .list = stands-collect (y .list) (stands-left (y .list) more r) in
+      stands-next
+      (ap (interfaceOfRecord s c) (interface-written s (interfacesAt c + 9 * k) refs y l x)
+      ∙ (λ i. record { layer = y .layer; kind = kindIn (kind-found (y .kind) i); key = y .key; list = entries i }))
       (interfaces-read (suc k) (refs + length (y .list)) l (stands-past 9 x (omega arith)) (stands-right (y .list) more r refl))
 
   actions-read : (k ports : ℕ) (l : List Action) → Stands (u8At s) (stepsAt c + 11 * k) (actionsBytes ports l)
@@ -104,18 +72,12 @@ module _ (s : List ℕ) (c : Counts) where
   unfolding actionsBytes concat all
   actions-read k ports [] x r plain = stands-none
   actions-read k ports (y ∷ l) x r plain =
-      let a : ℕ = stepsAt c + 11 * k in
       let more : List Port = concat (λ y. y .ports) l in
       let others : Bool = all (λ y. plainStep (y .step)) l in
-      let tag : u8At s a ≡ _ = u8-in s 0 x refl (omega arith) in
-      let first : u32At s (a + 1) ≡ stepA (y .step) = u32-in s 1 x refl refl in
-      let second : u16At s (a + 5) ≡ stepB (y .step) = u16-in s 5 x refl refl in
-      let from : u16At s (a + 7) ≡ ports = u16-in s 7 x refl refl in
-      let count : u16At s (a + 7 + 2) ≡ length (y .ports) = u16-in s 9 x refl (omega arith) in
-      let named : stepIn (stepOf (u8At s a) (u32At s (a + 1)) (u16At s (a + 5))) ≡ y .step =
-      (λ i. stepIn (stepOf (tag i) (first i) (second i))) ∙ step-named (y .step) (left-true (plainStep (y .step)) others plain) in
-      let its : portsFrom s c (u16At s (a + 7)) (u16At s (a + 7 + 2)) ≡ y .ports = stands-run (stands-left (y .ports) more r) from count in
-      stands-next (λ i. record { step = named i; ports = its i })
+      let found = step-found (y .step) (left-true (plainStep (y .step)) others plain) in
+      let its : collect (nthPort s c) ports (length (y .ports)) ≡ y .ports = stands-collect (y .ports) (stands-left (y .ports) more r) in
+      stands-next
+      (ap (actionOfRecord s c) (step-written s (stepsAt c + 11 * k) ports y l x) ∙ (λ i. record { step = stepIn (found i); ports = its i }))
       (actions-read (suc k) (ports + length (y .ports)) l (stands-past 11 x (omega arith)) (stands-right (y .ports) more r refl)
       (right-true (plainStep (y .step)) others plain))
 
@@ -125,44 +87,29 @@ module _ (s : List ℕ) (c : Counts) where
   unfolding stagesBytes concat
   stages-read k refs steps ports [] x r t p = stands-none
   stages-read k refs steps ports (y ∷ l) x r t p =
-      let a : ℕ = stagesAt c + 30 * k in
       let more-refs : List ℕ = concat (λ y. y .declarations) l in
       let more-steps : List Action = concat (λ y. y .steps) l in
       let more-ports : List Port = concat (λ y. y .ports ++ y .payload) l in
       let both : Stands (nthPort s c) ports (y .ports ++ y .payload) = stands-left (y .ports ++ y .payload) more-ports p in
-      let span : u32At s a ≡ y .span = u32-in s 0 x refl (omega arith) in
-      let interface : u16At s (a + 4) ≡ y .interface = u16-in s 4 x refl refl in
-      let layer : u16At s (a + 6) ≡ y .layer = u16-in s 6 x refl refl in
-      let header : headerIn (headerOf (u8At s (a + 8))) ≡ y .header =
-      ap (λ (n : ℕ). headerIn (headerOf n)) (u8-in s 8 x refl refl) ∙ header-named (y .header) in
-      let key : u32At s (a + 9) ≡ y .key = u32-in s 9 x refl refl in
-      let ports-first : u16At s (a + 13) ≡ ports = u16-in s 13 x refl refl in
-      let ports-count : u16At s (a + 13 + 2) ≡ length (y .ports) = u16-in s 15 x refl (omega arith) in
-      let refs-first : u16At s (a + 17) ≡ refs = u16-in s 17 x refl refl in
-      let refs-count : u16At s (a + 17 + 2) ≡ length (y .declarations) = u16-in s 19 x refl (omega arith) in
-      let steps-first : u16At s (a + 21) ≡ steps = u16-in s 21 x refl refl in
-      let steps-count : u16At s (a + 21 + 2) ≡ length (y .steps) = u16-in s 23 x refl (omega arith) in
-      let wires : u16At s (a + 25) ≡ y .wires = u16-in s 25 x refl refl in
-      let transfer : u16At s (a + 27) ≡ y .transfer = u16-in s 27 x refl refl in
-      let payload-count : u8At s (a + 29) ≡ length (y .payload) = u8-in s 29 x refl refl in
-      let header-ports = stands-run (stands-left (y .ports) (y .payload) both) ports-first ports-count in
-      let declarations = stands-run (stands-left (y .declarations) more-refs r) refs-first refs-count in
-      let actions = stands-run (stands-left (y .steps) more-steps t) steps-first steps-count in
-      let payload = stands-run (stands-right (y .ports) (y .payload) both refl) (λ i. ports-first i + ports-count i) payload-count in
+      let header-ports = stands-collect (y .ports) (stands-left (y .ports) (y .payload) both) in
+      let declarations = stands-collect (y .declarations) (stands-left (y .declarations) more-refs r) in
+      let actions = stands-collect (y .steps) (stands-left (y .steps) more-steps t) in
+      let payload = stands-collect (y .payload) (stands-right (y .ports) (y .payload) both refl) in
       stands-next
-      (λ i. record {
-        span = span i;
-        interface = interface i;
-        layer = layer i;
-        header = header i;
-        key = key i;
+      (ap (stageOfRecord s c) (stage-written s (stagesAt c + 30 * k) refs steps ports y l x)
+      ∙ (λ i. record {
+        span = y .span;
+        interface = y .interface;
+        layer = y .layer;
+        header = headerIn (header-found (y .header) i);
+        key = y .key;
         ports = header-ports i;
         declarations = declarations i;
         steps = actions i;
-        wires = wires i;
-        transfer = transfer i;
+        wires = y .wires;
+        transfer = y .transfer;
         payload = payload i;
-      })
+      }))
       (stages-read (suc k) (refs + length (y .declarations)) (steps + length (y .steps)) (ports + length (y .ports) + length (y .payload)) l
       (stands-past 30 x (omega arith))
       (stands-right (y .declarations) more-refs r refl)
@@ -203,16 +150,7 @@ grown l m p q = length-append l m ∙ (λ i. p i + q i)
 
 module _ (v : Vir) where
   abbrev counts : Counts
-  counts = record {
-    layers = length (v .layers);
-    interfaces = length (v .interfaces);
-    stages = length (v .stages);
-    locals = length (v .locals);
-    types = length (v .types);
-    steps = length (allActions v);
-    ports = length (allPorts v);
-    refs = length (allRefs v);
-  }
+  counts = countsOfVir v
 
   -- what stands before each section, and the section
   abbrev to-layers : List ℕ
@@ -273,6 +211,10 @@ module _ (v : Vir) where
   refs-start : length to-refs ≡ refsAt counts
   refs-start = grown to-ports (concat portBytes (allPorts v)) ports-start (length-concat portBytes 9 (λ p. refl) (allPorts v))
 
+  pub encode-length : length (encode v) ≡ lengthOf counts
+  unfolding encode
+  encode-length = grown to-refs (concat u16Bytes (allRefs v)) refs-start (length-concat u16Bytes 2 (λ n. refl) (allRefs v))
+
   abbrev Here : ℕ → List ℕ → Type 0
   Here = Stands (u8At (encode v))
 
@@ -301,7 +243,7 @@ module _ (v : Vir) where
   interfaces-before : Here 0 to-interfaces
   interfaces-before = stands-left to-interfaces interfaces-part stages-before
 
-  counts-read : countsOf (encode v) ≡ counts
+  pub counts-read : countsOf (encode v) ≡ counts
   counts-read =
       let s : List ℕ = encode v in
       let x : Here 0 to-layers = stands-left to-layers layers-part interfaces-before in
@@ -324,6 +266,28 @@ module _ (v : Vir) where
         refs = refs i;
       }
 
+  -- where each section stands
+  pub layers-stand : Here (layersAt counts) layers-part
+  layers-stand = stands-right to-layers layers-part interfaces-before refl
+
+  pub interfaces-stand : Here (interfacesAt counts) interfaces-part
+  interfaces-stand = stands-right to-interfaces interfaces-part stages-before (omega (arith, interfaces-start))
+
+  pub stages-stand : Here (stagesAt counts) stages-part
+  stages-stand = stands-right to-stages stages-part locals-before (omega (arith, stages-start))
+
+  pub locals-stand : Here (localsAt counts) (concat localBytes (v .locals))
+  locals-stand = stands-right to-locals (concat localBytes (v .locals)) types-before (omega (arith, locals-start))
+
+  pub types-stand : Here (typesAt counts) (concat flexBytes (v .types))
+  types-stand = stands-right to-types (concat flexBytes (v .types)) steps-before (omega (arith, types-start))
+
+  pub steps-stand : Here (stepsAt counts) steps-part
+  steps-stand = stands-right to-steps steps-part ports-before (omega (arith, steps-start))
+
+  pub ports-stand : Here (portsAt counts) (concat portBytes (allPorts v))
+  ports-stand = stands-right to-ports (concat portBytes (allPorts v)) refs-before (omega (arith, ports-start))
+
   -- the lists that lie end to end
   refs-here : Stands (nthRef (encode v) counts) 0 (allRefs v)
   refs-here =
@@ -332,45 +296,38 @@ module _ (v : Vir) where
   owner-refs : Stands (nthRef (encode v) counts) 0 (layerRefs v ++ interfaceRefs v)
   owner-refs = stands-left (layerRefs v ++ interfaceRefs v) (concat (λ t. t .declarations) (v .stages)) refs-here
 
+  pub layer-refs-here : Stands (nthRef (encode v) counts) 0 (layerRefs v)
+  layer-refs-here = stands-left (layerRefs v) (interfaceRefs v) owner-refs
+
+  pub interface-refs-here : Stands (nthRef (encode v) counts) (length (layerRefs v)) (interfaceRefs v)
+  interface-refs-here = stands-right (layerRefs v) (interfaceRefs v) owner-refs (zero-add _)
+
+  pub stage-refs-here : Stands (nthRef (encode v) counts) (length (layerRefs v) + length (interfaceRefs v)) (concat (λ t. t .declarations) (v .stages))
+  stage-refs-here =
+      stands-right (layerRefs v ++ interfaceRefs v) (concat (λ t. t .declarations) (v .stages)) refs-here
+      (omega (arith, length-append (layerRefs v) (interfaceRefs v)))
+
   ports-here : Stands (nthPort (encode v) counts) 0 (allPorts v)
-  ports-here =
-      ports-read (encode v) counts (allPorts v)
-      (stands-right to-ports (concat portBytes (allPorts v)) refs-before (omega (arith, ports-start)))
-
-  layers-here : Stands (nthLayer (encode v) counts) 0 (v .layers)
-  layers-here =
-      layers-read (encode v) counts 0 0 (v .layers) (stands-right to-layers layers-part interfaces-before (omega arith))
-      (stands-left (layerRefs v) (interfaceRefs v) owner-refs)
-
-  interfaces-here : Stands (nthInterface (encode v) counts) 0 (v .interfaces)
-  interfaces-here =
-      interfaces-read (encode v) counts 0 (length (layerRefs v)) (v .interfaces)
-      (stands-right to-interfaces interfaces-part stages-before (omega (arith, interfaces-start)))
-      (stands-right (layerRefs v) (interfaceRefs v) owner-refs (zero-add _))
-
-  locals-here : Stands (nthLocal (encode v) counts) 0 (v .locals)
-  locals-here =
-      locals-read (encode v) counts (v .locals)
-      (stands-right to-locals (concat localBytes (v .locals)) types-before (omega (arith, locals-start)))
-
-  types-here : Stands (nthFlex (encode v) counts) 0 (v .types)
-  types-here =
-      types-read (encode v) counts (v .types)
-      (stands-right to-types (concat flexBytes (v .types)) steps-before (omega (arith, types-start)))
+  ports-here = ports-read (encode v) counts (allPorts v) ports-stand
 
   actions-here : Plain v → Stands (nthAction (encode v) counts) 0 (allActions v)
   actions-here plain =
-      actions-read (encode v) counts 0 (length (stagePorts v)) (allActions v)
-      (stands-right to-steps steps-part ports-before (omega (arith, steps-start)))
+      actions-read (encode v) counts 0 (length (stagePorts v)) (allActions v) (stands-move (omega arith) steps-stand)
       (stands-right (stagePorts v) (concat (λ a. a .ports) (allActions v)) ports-here (zero-add _))
       plain
+
+  layers-here : Stands (nthLayer (encode v) counts) 0 (v .layers)
+  layers-here = layers-read (encode v) counts 0 0 (v .layers) (stands-move (omega arith) layers-stand) layer-refs-here
+
+  interfaces-here : Stands (nthInterface (encode v) counts) 0 (v .interfaces)
+  interfaces-here =
+      interfaces-read (encode v) counts 0 (length (layerRefs v)) (v .interfaces) (stands-move (omega arith) interfaces-stand) interface-refs-here
 
   stages-here : Plain v → Stands (nthStage (encode v) counts) 0 (v .stages)
   stages-here plain =
       stages-read (encode v) counts 0 (length (layerRefs v) + length (interfaceRefs v)) 0 0 (v .stages)
-      (stands-right to-stages stages-part locals-before (omega (arith, stages-start)))
-      (stands-right (layerRefs v ++ interfaceRefs v) (concat (λ t. t .declarations) (v .stages)) refs-here
-      (omega (arith, length-append (layerRefs v) (interfaceRefs v))))
+      (stands-move (omega arith) stages-stand)
+      stage-refs-here
       (actions-here plain)
       (stands-left (stagePorts v) (concat (λ a. a .ports) (allActions v)) ports-here)
 
@@ -381,8 +338,8 @@ module _ (v : Vir) where
         layers = stands-collect (v .layers) layers-here i;
         interfaces = stands-collect (v .interfaces) interfaces-here i;
         stages = stands-collect (v .stages) (stages-here plain) i;
-        locals = stands-collect (v .locals) locals-here i;
-        types = stands-collect (v .types) types-here i;
+        locals = stands-collect (v .locals) (locals-read (encode v) counts (v .locals) locals-stand) i;
+        types = stands-collect (v .types) (types-read (encode v) counts (v .types) types-stand) i;
       }
 
 -- every value that is plain is the reading of its own bytes, also where they are no image that is accepted: no number is cut off in them

@@ -86,7 +86,7 @@ module _ (s : List ℕ) (c : Counts) (few : c .layers ≤ 64) (r : Running) (t :
   unfolding viewOf
   refs-are = lists-all (in-layers then in-interfaces then stage-refs s c (t .interfaces) (t .stages) (t .by-stages)) refl refs-end
 
-  actions-are : allActions (viewOf s c) ≡ collect (nthAction s c) 0 (c .steps)
+  pub actions-are : allActions (viewOf s c) ≡ collect (nthAction s c) 0 (c .steps)
   unfolding viewOf
   actions-are = lists-all (stage-steps s c (t .interfaces) (t .stages) (t .by-stages)) no-steps steps-end
 
@@ -94,7 +94,7 @@ module _ (s : List ℕ) (c : Counts) (few : c .layers ≤ 64) (r : Running) (t :
   unfolding viewOf
   in-stages = lists-move no-ports (sym (unmoved (λ q. q .ports))) (stage-ports s c (t .interfaces) (t .stages) (t .by-stages))
 
-  ports-are : allPorts (viewOf s c) ≡ collect (nthPort s c) 0 (c .ports)
+  pub ports-are : allPorts (viewOf s c) ≡ collect (nthPort s c) 0 (c .ports)
   ports-are =
       ap (λ (l : List Action). stagePorts (viewOf s c) ++ concat (λ a. a .ports) l) actions-are
       ∙ lists-all (in-stages then step-ports s c few (t .types) (t .steps) (t .by-steps)) refl ports-end

@@ -68,10 +68,6 @@ module _ {A : Type 0} {h : ℕ → A} where
       let first : h a ≡ y = ap h (sym (add-zero a)) ∙ x .at y 0 (omega arith) in
       λ i. first i ∷ rest i
 
-  -- a list by its first place and its count
-  pub stands-run : {a first count : ℕ} {l : List A} → Stands h a l → first ≡ a → count ≡ length l → collect h first count ≡ l
-  stands-run {l = l} x p q = (λ i. collect h (p i) (q i)) ∙ stands-collect l x
-
 pub stands-whole : (s : List ℕ) → Stands (u8At s) 0 s
 stands-whole s = record { at = λ d k b. ap (u8At s) (zero-add k) ∙ getD-any s k 0 d b }
 

@@ -53,16 +53,16 @@ step-back n a b m = go (stepOf n a b) refl
     go NoStep e h = absurd (true≢false (sym h))
 
 -- P of each entry of a list with its number, from n on
-abbrev Each : {A : Type 0} → (ℕ → A → Type 0) → ℕ → List A → Type 0
+abbrev pub Each : {A : Type 0} → (ℕ → A → Type 0) → ℕ → List A → Type 0
 Each P n [] = Unit {0}
 Each P n (x ∷ xs) = P n x × Each P (suc n) xs
 
 infixr 40 _▸_
-abbrev _▸_ : {A B : Type 0} → A → B → A × B
+abbrev pub _▸_ : {A B : Type 0} → A → B → A × B
 a ▸ b = (a, b)
 
 -- with P of what stands past them too, it is P of what is read at any number
-each-at : {A : Type 0} (P : ℕ → A → Type 0) (n : ℕ) (l : List A) (d : A) → Each P n l → ((i : ℕ) → n + length l ≤ i → P i d)
+pub each-at : {A : Type 0} (P : ℕ → A → Type 0) (n : ℕ) (l : List A) (d : A) → Each P n l → ((i : ℕ) → n + length l ≤ i → P i d)
     → (i : ℕ) → P (n + i) (getD l i d)
 each-at P n [] d t past i = past (n + i) (omega arith)
 each-at P n (x ∷ xs) d t past zero = subst (λ (k : ℕ). P k x) (sym (add-zero n)) (t .0)
