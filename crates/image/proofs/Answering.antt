@@ -22,7 +22,7 @@ use Rattle.image.specs.Vir.{Vir}
 use Rattle.records.proofs.Guards.{left-true, right-true}
 
 -- the kind's answer by its tests
-abbrev byKind : Bool → Bool → Bool → Answer
+abbrev pub byKind : Bool → Bool → Bool → Answer
 byKind neither flat rules =
     elim neither [
       | true ↦ refused 7 0

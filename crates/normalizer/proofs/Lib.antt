@@ -13,6 +13,7 @@ pub mod Layering
 pub mod Lines
 pub mod Members
 pub mod Occurrences
+pub mod OfImages
 pub mod Once
 pub mod Owners
 pub mod Roots
