@@ -2,6 +2,7 @@ pub mod Computed
 pub mod Demand
 pub mod Each
 pub mod Networks
+pub mod OfImages
 pub mod Reports
 pub mod Sizes
 pub mod Stages
