@@ -1,2 +1,3 @@
+pub mod Room
 pub mod Starred
 pub mod Unique
