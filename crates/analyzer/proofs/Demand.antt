@@ -2,7 +2,7 @@
 use mathlib.Core.Path.{_≡_, _∙_, refl, sym, ap, ap₂, subst}
 use mathlib.Core.Bool.{Bool, true, false}
 use mathlib.Core.List.{List, [], _∷_}
-use Prim.Native.Nat.{ℕ, zero, suc, _+_, _*_, _<_, _≤_}
+use Prim.Native.Nat.{ℕ, zero, suc, _+_, _<_}
 use native.Mathlib.Nat.{le-of-suc-le-suc, not-suc-le-zero}
 use native.Mathlib.Omega.{arith}
 use lib.Dec.{eqb}
@@ -14,11 +14,11 @@ use Rattle.image.specs.Loops.{each}
 use Rattle.image.specs.Vir.{Vir, stageOf}
 use Rattle.wellformed.specs.WellFormed.{WellFormed}
 use Rattle.report.specs.Report.{Wire, noWire}
-use Rattle.solve.specs.FixedPoint.{Relation, effectAt, fixedPoint}
-use Rattle.solve.specs.Least.{AllInside, Least}
+use Rattle.solve.specs.FixedPoint.{Relation, effectAt}
+use Rattle.solve.specs.Least.{AllInside}
 use Rattle.solve.proofs.Demand.{least, least-unique, four, steps, enough, waits}
 use Rattle.analyzer.specs.Analyze.{answersFor, processLocal}
-use Rattle.analyzer.specs.Build.{Segment, Disconnect, Network, PASS, getTransfer, localOf}
+use Rattle.analyzer.specs.Build.{Disconnect, Network, PASS, getTransfer, localOf}
 use Rattle.analyzer.specs.Demand.{networkOf, inverseOf, seedsOf, LeastFor, wireBy, Demand}
 use Rattle.analyzer.specs.Fill.{contains, touched, fillSegments}
 use Rattle.analyzer.specs.Sweep.{incomingOf}

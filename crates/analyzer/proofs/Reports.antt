@@ -3,37 +3,28 @@ use mathlib.Core.Path.{_≡_, _∙_, refl, sym, ap, subst}
 use mathlib.Core.Bool.{Bool, true, false}
 use mathlib.Core.List.{List, [], _∷_, map}
 use Prim.Native.Nat.{ℕ, zero, suc, _+_, _<_, _≤_}
-use native.Mathlib.Nat.{le-of-suc-le-suc, not-suc-le-zero}
 use native.Mathlib.Omega.{arith}
-use lib.ListN.{length, getD, replicate, length-map, length-replicate, List·getD-map}
-use Rattle.records.specs.declared.layout.Counts.{Counts}
-use Rattle.records.specs.Layout.{lengthOf, Sized}
-use Rattle.image.specs.Encode.{countsOfVir}
+use lib.ListN.{length, getD, length-map, List·getD-map}
+use Rattle.records.specs.Layout.{Sized}
+use Rattle.image.specs.Encode.{encode, countsOfVir}
 use Rattle.image.specs.Loops.{each}
 use Rattle.image.specs.View.{collect}
 use Rattle.image.specs.Vir.{Vir}
-use Rattle.image.proofs.Answering.{within-sized}
-use Rattle.image.proofs.Viewing.{length-collect}
+use Rattle.image.proofs.Viewing.{length-collect, getD-collect}
 use Rattle.wellformed.specs.WellFormed.{WellFormed}
+use Rattle.wellformed.proofs.Plain.{fitting}
 use Rattle.report.specs.Report.{Wire, noWire, reportBytes}
 use Rattle.report.proofs.Lengths.{report-length}
 use Rattle.solve.specs.Least.{total}
-use Rattle.analyzer.specs.Analyze.{Answers, Column, Saying, answersFor, processed, processLocal, columns, wireIn, saidOf, analyze}
-use Rattle.analyzer.specs.Build.{build}
+use Rattle.analyzer.specs.Analyze.{Answers, Column, Saying, answersFor, processed, columns, wireIn, saidOf, analyze}
 use Rattle.analyzer.specs.Demand.{networkOf}
 use Rattle.analyzer.specs.Reported.{Reported, answersIn, takesIn, evaluationsIn, locals}
 use Rattle.analyzer.specs.Sweep.{incomingOf}
 use Rattle.analyzer.proofs.Sweeps.{incoming-sized}
 
-getD-collect : {A : Type 0} (f : ℕ → A) (i n k : ℕ) (d : A) → k < n → getD (collect f i n) k d ≡ f (i + k)
-unfolding collect
-getD-collect f i zero k d h = absurd (not-suc-le-zero h)
-getD-collect f i (suc n) zero d h = ap f (omega arith)
-getD-collect f i (suc n) (suc k) d h = getD-collect f (suc i) n k d (le-of-suc-le-suc h) ∙ ap f (omega arith)
-
 -- from 0 on
 getD-all : {A : Type 0} (f : ℕ → A) (n k : ℕ) (d : A) → k < n → getD (collect f 0 n) k d ≡ f k
-getD-all f n k d h = getD-collect f 0 n k d h ∙ ap f (omega arith)
+getD-all f n k d h = getD-collect f d 0 n k h ∙ ap f (omega arith)
 
 module _ (v : Vir) where
   abbrev columnAt : ℕ → Column
@@ -109,11 +100,8 @@ report-fits span v f =
     (sym (getD-all rowAt (length (v .interfaces)) k [] (subst (λ (n : ℕ). k < n) (length-collect rowAt 0 (length (v .interfaces))) h)))
     (subst (λ (n : ℕ). n ≤ 256) (sym (length-map all (λ c. wireIn k (c .answers)) ∙ ap length (columns-are v) ∙ length-collect (columnAt v) 0 (length (v .locals)))) (most .locals)))
   where
-    c : Counts
-    c = countsOfVir v
-
-    most : Sized (replicate (lengthOf c) 0) c
-    most = within-sized (replicate (lengthOf c) 0) c (f .counted) (length-replicate (lengthOf c) 0)
+    most : Sized (encode v) (countsOfVir v)
+    most = fitting v f
 
     all : List Column
     all = columns v (incomingOf v) (networkOf v)

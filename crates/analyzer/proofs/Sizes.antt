@@ -1,29 +1,29 @@
 -- How many variables and relations build makes, and that every index is in range: document 01's 7,937 and 7,424.
-use mathlib.Core.Path.{_≡_, _∙_, refl, sym, ap}
-use mathlib.Core.Bool.{Bool, true, false, _&&_}
+use mathlib.Core.Path.{_≡_, refl, ap}
+use mathlib.Core.Bool.{Bool, true, false}
 use mathlib.Core.List.{List, [], _∷_, _++_, map}
-use Prim.Native.Nat.{ℕ, zero, suc, _+_, _*_, _<_, _≤_}
+use Prim.Native.Nat.{ℕ, suc, _+_, _*_, _<_, _≤_}
 use native.Mathlib.Omega.{arith}
 use borrow.Author.Tests.{ltb-true, eqb-false, not-true}
 use lib.Dec.{eqb, ltb}
-use lib.ListN.{length, getD, replicate, length-append, length-replicate}
+use lib.ListN.{length, getD, length-append}
 use Rattle.effect.specs.declared.Effect.the-variants.{ReadBarrierWrite}
 use Rattle.vir.specs.Arity.{allows}
 use Rattle.vir.specs.Step.{stepPorts}
 use Rattle.vir.specs.declared.step.Step.{Step}
 use Rattle.vir.specs.declared.step.Step.the-variants.{Invoke, Transfer, Diverge, Link, Call, Const, Composite, Rewrap, Enum, Union, Ref, List as Listing, String, InlineIvy, BoolNot, BoolAnd}
 use Rattle.records.specs.declared.layout.Counts.{Counts}
-use Rattle.records.specs.Layout.{lengthOf, Sized}
+use Rattle.records.specs.Layout.{Sized}
 use Rattle.records.proofs.Guards.{left-true, right-true}
-use Rattle.image.specs.Encode.{allActions, countsOfVir}
+use Rattle.image.specs.Encode.{encode, allActions, countsOfVir}
 use Rattle.image.specs.Kind.{all, concat}
 use Rattle.image.specs.LayerRules.{transferTo}
-use Rattle.image.proofs.Answering.{within-sized}
 use Rattle.image.specs.Vir.{Action, Interface, Stage, Vir}
 use Rattle.wellformed.specs.WellFormed.{WellFormed, u32Fits, stageFits, actionFits, stepFits}
+use Rattle.wellformed.proofs.Plain.{fitting}
 use Rattle.solve.specs.Least.{AllInside, Inside}
 use Rattle.solve.proofs.Entries.{entries-each}
-use Rattle.analyzer.specs.Build.{Touch, Segment, Disconnect, Network, PASS, getTransfer, isInspect, newSegment, inspects, begun, buildStage, buildFrom, build}
+use Rattle.analyzer.specs.Build.{Touch, Segment, Disconnect, Network, getTransfer, isInspect, newSegment, inspects, begun, buildStage, buildFrom, build}
 use Rattle.analyzer.specs.Sizes.{Sizes}
 use Rattle.analyzer.specs.Sweep.{transfersOf}
 use Rattle.analyzer.proofs.Each.{Each, each-at, each-left, each-right, each-both}
@@ -202,5 +202,5 @@ module _ (v : Vir) (f : WellFormed v) (incoming : List ℕ) where
       all-inside : AllInside (net .vars) (net .relations)
       all-inside = λ k h. each-at (Inside (net .vars)) (net .relations) k _ (added .sound .relations) h
 
-      most : Sized (replicate (lengthOf c) 0) c
-      most = within-sized (replicate (lengthOf c) 0) c (f .counted) (length-replicate (lengthOf c) 0)
+      most : Sized (encode v) c
+      most = fitting v f

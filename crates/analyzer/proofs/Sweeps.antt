@@ -9,11 +9,9 @@ use native.Mathlib.Omega.{arith}
 use borrow.Author.Tests.{eqb-true, eq-eqb, ne-eqb, ltb-true, ltb-false}
 use lib.Dec.{eqb, ltb}
 use lib.ListN.{length, getD, set, replicate, length-set, length-replicate, List·getD-eq-default}
-use Rattle.vir.specs.declared.interface.InterfaceKind.the-variants.{Inspect}
-use Rattle.vir.specs.Ids.{none}
 use Rattle.image.specs.Kind.{concat, stagesOf}
 use Rattle.image.specs.Loops.{each}
-use Rattle.image.specs.Vir.{Interface, Vir, stageOf, interfaceOf}
+use Rattle.image.specs.Vir.{Interface, Vir, stageOf}
 use Rattle.analyzer.specs.Sweep.{onwardFrom, transfersOf, sweep, incomingOf, unmet}
 
 -- an interface counted, and gone on from where it is new

@@ -1,7 +1,7 @@
 -- analyzer.rs: `process_local` and `analyze`; and what a call of analyse answers.
 use mathlib.Core.Bool.{Bool, true, false, not, _&&_, _||_}
 use mathlib.Core.List.{List, [], _∷_, _++_, map}
-use Prim.Native.Nat.{ℕ, zero, suc, _+_}
+use Prim.Native.Nat.{ℕ, _+_}
 use lib.Dec.{eqb}
 use lib.ListN.{length, getD}
 use Rattle.effect.specs.declared.Effect.{Effect}

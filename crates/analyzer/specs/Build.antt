@@ -1,7 +1,7 @@
 -- analyzer.rs: `build`, the variables and relations of a flat image, in the Rust's order.
 use mathlib.Core.Bool.{Bool, true, false, not, _||_}
 use mathlib.Core.List.{List, [], _∷_, _++_, map}
-use Prim.Native.Nat.{ℕ, zero, suc, _+_, _-_, _*_}
+use Prim.Native.Nat.{ℕ, suc, _+_, _-_, _*_}
 use lib.Dec.{eqb}
 use lib.ListN.{length, getD}
 use Rattle.effect.specs.declared.Effect.{Effect}

@@ -1,10 +1,9 @@
 -- analyzer.rs: `report_errors`, the diagnostics of one local.
 use mathlib.Core.Bool.{Bool, true, false, not, _&&_, _||_}
 use mathlib.Core.List.{List, [], _∷_, _++_, reverse}
-use Prim.Native.Nat.{ℕ, suc}
+use Prim.Native.Nat.{ℕ}
 use lib.Dec.{eqb}
 use lib.ListN.{getD}
-use Rattle.effect.specs.declared.Effect.{Effect}
 use Rattle.effect.specs.Effect.{read, barrier, write}
 use Rattle.vir.specs.declared.consumer.Consumer.{Consumer}
 use Rattle.vir.specs.declared.consumer.Consumer.the-variants.{Missing, Unplaced, At}
@@ -14,7 +13,7 @@ use Rattle.vir.specs.Invocation.{invocationEffect}
 use Rattle.vir.specs.Step.{Invoked, invokeOf}
 use Rattle.image.specs.LayerRules.{transferTo}
 use Rattle.image.specs.Loops.{each}
-use Rattle.image.specs.Vir.{Action, Local, Stage, Vir}
+use Rattle.image.specs.Vir.{Action, Local, Stage}
 use Rattle.report.specs.Report.{Diag, Wire, noWire}
 
 -- the Rust's `(bool, bool, bool, Option<Span>)`: what a step does to the local, and who does it

@@ -3,13 +3,13 @@ use mathlib.Core.Bool.{Bool, true, false, _||_}
 use mathlib.Core.List.{List, [], _∷_}
 use Prim.Native.Nat.{ℕ}
 use lib.Dec.{eqb}
-use lib.ListN.{length, set, replicate}
+use lib.ListN.{set, replicate}
 use Rattle.effect.specs.declared.Effect.{Effect}
 use Rattle.effect.specs.declared.Effect.the-variants.{Pass, Never}
 use Rattle.effect.specs.Effect.{join}
 use Rattle.image.specs.Loops.{each}
 use Rattle.image.specs.Vir.{Vir, stageOf}
-use Rattle.analyzer.specs.Build.{Touch, Segment, Disconnect, Network, PASS}
+use Rattle.analyzer.specs.Build.{Touch, Network, PASS}
 
 -- whether a number stands in a list: `contains`
 unfoldable pub contains : List ℕ → ℕ → Bool

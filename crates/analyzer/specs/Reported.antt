@@ -6,7 +6,7 @@ use Prim.Native.Nat.{ℕ, _<_}
 use lib.ListN.{length, getD}
 use Rattle.image.specs.View.{collect}
 use Rattle.image.specs.Vir.{Vir}
-use Rattle.report.specs.Report.{Wire, noWire}
+use Rattle.report.specs.Report.{noWire}
 use Rattle.solve.specs.Least.{total}
 use Rattle.analyzer.specs.Analyze.{Answers, answersFor, processed, wireIn, analyze}
 use Rattle.analyzer.specs.Sweep.{incomingOf}

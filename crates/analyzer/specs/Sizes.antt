@@ -1,5 +1,4 @@
 -- Document 01: how many variables and relations there can be; and that every index names one that is there.
-use mathlib.Core.List.{List}
 use Prim.Native.Nat.{ℕ, _≤_, _<_}
 use lib.ListN.{length, getD}
 use Rattle.solve.specs.FixedPoint.{dependentOn}

@@ -5,31 +5,26 @@ use mathlib.Core.List.{List, [], _∷_, _++_}
 use Prim.Native.Nat.{ℕ, zero, suc, _+_, _-_, _≤_, _<_}
 use native.Mathlib.Omega.{arith}
 use lib.Dec.{eqb, ltb}
-use lib.ListN.{length, getD, replicate, length-replicate, List·getD-append, List·getD-map, List·getD-eq-default}
+use lib.ListN.{length, getD, List·getD-append, List·getD-map, List·getD-eq-default}
 use lib.Seq.{getD-append-add}
 use borrow.Author.Tests.{eqb-true, eqb-false, eq-eqb, ne-eqb, ltb-true, ltb-false, lt-ltb}
 use Rattle.effect.proofs.Finite.{getD-any}
 use Rattle.vir.specs.declared.interface.InterfaceKind.the-variants.{Inspect}
 use Rattle.vir.specs.Ids.{none}
-use Rattle.records.specs.declared.layout.Counts.{Counts}
-use Rattle.records.specs.Layout.{within, lengthOf, Sized}
+use Rattle.records.specs.Layout.{within}
 use Rattle.records.proofs.Every.{every-at}
 use Rattle.image.specs.Encode.{countsOfVir}
 use Rattle.image.specs.Kind.{all, concat, occurrences, present, stagesOf, listed, listedByOwn, flat, kindOfVir}
 use Rattle.image.specs.View.{collect}
 use Rattle.image.specs.Vir.{Interface, Stage, Vir, interfaceOf, stageOf}
-use Rattle.image.proofs.Answering.{within-sized}
+use Rattle.image.proofs.Diverging.{occurrences-append}
 use Rattle.image.proofs.Viewing.{getD-collect}
+use Rattle.wellformed.proofs.Plain.{fitting}
 use Rattle.normalizer.specs.Layered.{Layered}
 use Rattle.normalizer.specs.Normalize.{normalized, unwrap, normalize}
-use Rattle.normalizer.proofs.Formed.{SetOnce, stages-length, facts, good-at}
+use Rattle.normalizer.proofs.Formed.{SetOnce, stages-length, facts, good-at, normal-formed}
 use Rattle.normalizer.proofs.Members.{all-one, all-imp, every-from}
 use Rattle.normalizer.proofs.Sound.{single, Shape, Good, as-many, stages-grow}
-
-occurrences-append : (t : ℕ) (a b : List ℕ) → occurrences t (a ++ b) ≡ occurrences t a + occurrences t b
-unfolding occurrences
-occurrences-append t [] b = omega arith
-occurrences-append t (x ∷ a) b = omega (arith, occurrences-append t a b)
 
 module _ {A : Type 0} (g : A → List ℕ) (t : ℕ) where
   occurrences-concat : (xs ys : List A) → occurrences t (concat g (xs ++ ys)) ≡ occurrences t (concat g xs) + occurrences t (concat g ys)
@@ -67,10 +62,6 @@ kind-listed true true rest h = (refl, refl)
 kind-listed true false rest h = absurd (omega (arith, h))
 kind-listed false list rest h = absurd (omega (arith, h))
 
--- counts within their maxima, as the sizes of some bytes
-few : (c : Counts) → within c ≡ true → Sized (replicate (lengthOf c) 0) c
-few c h = within-sized (replicate (lengthOf c) 0) c h (length-replicate (lengthOf c) 0)
-
 module _ (v : Vir) (y : Layered v) where
   own-before : (listedByOwn v ≡ true) × (listed v ≡ true)
   unfolding kindOfVir
@@ -104,7 +95,7 @@ module _ (v : Vir) (y : Layered v) where
         go false k =
             let past : stageOf v t .interface ≡ none =
             ap (λ (s : Stage). s .interface) (List·getD-eq-default (v .stages) _ {n = t} (ltb-false t (length (v .stages)) k)) in
-            absurd (omega (arith, h, eqb-true (stageOf v t .interface) i e, past, few (countsOfVir v) (y .formed .counted) .interfaces))
+            absurd (omega (arith, h, eqb-true (stageOf v t .interface) i e, past, fitting v (y .formed) .interfaces))
 
     -- what stands past the last interface
     abbrev absent : Interface
@@ -134,7 +125,7 @@ module _ (v : Vir) (y : Layered v) where
         let inside : t < length (w .stages) = omega (arith, fresh, stages-length v, shape .single .ends) in
         let named : stageOf w t .interface + length (v .stages) ≡ length (v .interfaces) + t = good-stage t inside .home .new (omega arith) in
         ap (λ (x : Interface). all (λ t. eqb (stageOf w t .interface) i) (stagesOf x)) (interface-new i k (omega (arith, l)) fresh)
-        ∙ ap (all (λ t. eqb (stageOf w t .interface) i)) (single-lists t (omega (arith, inside, few (countsOfVir w) counted .stages)))
+        ∙ ap (all (λ t. eqb (stageOf w t .interface) i)) (single-lists t (omega (arith, inside, fitting w (normal-formed v y once counted) .stages)))
         ∙ all-one (λ t. eqb (stageOf w t .interface) i) t (eq-eqb (stageOf w t .interface) i (omega (arith, named, l)))
 
     own-after : listedByOwn w ≡ true
@@ -171,7 +162,7 @@ module _ (v : Vir) (y : Layered v) where
             let past : length (v .stages) ≤ t = ltb-false t (length (v .stages)) e in
             let fresh =
             singles-list (length (v .stages)) (shape .single .count) t past (omega (arith, h, stages-length v, shape .single .ends))
-            (omega (arith, h, few (countsOfVir w) counted .stages)) in
+            (omega (arith, h, fitting w (normal-formed v y once counted) .stages)) in
             omega (arith, fresh, two t)
 
     flat-after : flat w ≡ true

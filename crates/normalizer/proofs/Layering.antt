@@ -5,20 +5,19 @@ use mathlib.Core.List.{[], _∷_, List·Memᴰ, List·Memᴰ·head, List·Memᴰ
 use Prim.Native.Nat.{ℕ, _<_, _≤_}
 use native.Mathlib.Omega.{arith}
 use lib.Dec.{eqb, ltb}
-use lib.ListN.{length, replicate, length-replicate, List·getD-eq-default}
+use lib.ListN.{length, List·getD-eq-default}
 use borrow.Author.Tests.{eqb-true, ne-eqb, ltb-true, ltb-false}
 use Rattle.vir.specs.Ids.{none}
 use Rattle.records.specs.Faults.{orNone}
-use Rattle.records.specs.Layout.{lengthOf}
 use Rattle.records.proofs.Every.{every-at}
 use Rattle.records.proofs.Guards.{left-true, right-true}
 use Rattle.image.specs.Encode.{countsOfVir}
 use Rattle.image.specs.Kind.{all, concat, occurrences}
 use Rattle.image.specs.LayerRules.{parentsBelow, listedByOwnLayer, listedOnce, interfacesLie, enteredFromParent, enteredOnce, entries, transferTo, layerRules}
 use Rattle.image.specs.Vir.{Action, Layer, Vir, layerOf, stageOf}
-use Rattle.image.proofs.Answering.{within-sized}
 use Rattle.image.proofs.Climbing.{parentOf, parent-below}
 use Rattle.wellformed.specs.WellFormed.{layerFits}
+use Rattle.wellformed.proofs.Plain.{fitting}
 use Rattle.normalizer.specs.Divergence.{subLayer}
 use Rattle.normalizer.specs.Layered.{Layered}
 use Rattle.normalizer.proofs.Each.{all-at, member-at, member-concat}
@@ -50,9 +49,7 @@ module _ (v : Vir) where
 
 module _ (v : Vir) (w : Layered v) where
   pub few-layers : length (v .layers) ≤ 64
-  few-layers =
-      within-sized (replicate (lengthOf (countsOfVir v)) 0) (countsOfVir v) (w .formed .counted) (length-replicate (lengthOf (countsOfVir v)) 0)
-      .layers
+  few-layers = fitting v (w .formed) .layers
 
   six : (parentsBelow v && listedByOwnLayer v && listedOnce v && interfacesLie v && enteredFromParent v && enteredOnce v) ≡ true
   unfolding layerRules

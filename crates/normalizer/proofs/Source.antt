@@ -5,8 +5,8 @@ use mathlib.Core.List.{List, [], _++_}
 use Prim.Native.Nat.{ℕ, zero, suc, _≤_, _<_}
 use native.Mathlib.Omega.{arith}
 use lib.Dec.{eqb, ltb, leb}
-use lib.ListN.{length, List·getD-eq-default}
-use borrow.Author.Tests.{eqb-true, eqb-false, ne-eqb, ltb-true, ltb-false, le-leb}
+use lib.ListN.{length}
+use borrow.Author.Tests.{eqb-true, eqb-false, ltb-true, ltb-false, le-leb}
 use Rattle.vir.specs.Ids.{none}
 use Rattle.records.specs.declared.layout.Counts.{Counts}
 use Rattle.records.specs.Faults.{orNone}
@@ -18,6 +18,7 @@ use Rattle.image.specs.LayerRules.{parentsBelow, listedOnce, listedByOwnLayer, 
 use Rattle.image.specs.Vir.{Action, Layer, Stage, Vir, layerOf, stageOf}
 use Rattle.wellformed.specs.WellFormed.{layerFits, stageFits, actionFits, portFits}
 use Rattle.normalizer.specs.Layered.{Layered}
+use Rattle.normalizer.proofs.Layering.{no-layer, parent-lower}
 use Rattle.normalizer.proofs.Members.{all-none, all-left, all-right, all-at, all-getD, all-imp, all-both, all-concat}
 use Rattle.normalizer.proofs.Whole.{whole}
 
@@ -33,23 +34,7 @@ pub record SourceFits (v : Vir) (layer t : ℕ) : Type 0 where
   pub payload : all (portFits (countsOfVir v)) (stageOf v t .payload) ≡ true
   pub steps : all (takes (countsOfVir v) layer) (stageOf v t .steps) ≡ true
 
--- past the last layer stands one that lists nothing
-past-layers : (v : Vir) (l : ℕ) → length (v .layers) ≤ l → layerOf v l ≡ record { parent = none; stages = [] }
-past-layers v l h = List·getD-eq-default (v .layers) (record { parent = none; stages = [] }) {n = l} h
-
-module _ (v : Vir) (below : parentsBelow v ≡ true) where
-  parent-below : (l : ℕ) → (layerOf v l .parent ≡ none → ⊥) → layerOf v l .parent < l
-  parent-below l e = go (ltb l (length (v .layers))) refl
-    where
-      go : (b : Bool) → ltb l (length (v .layers)) ≡ b → layerOf v l .parent < l
-      go true h =
-          ltb-true (layerOf v l .parent) l
-          (sym (ap (λ (b : Bool). b || ltb (layerOf v l .parent) l) (ne-eqb (layerOf v l .parent) none e))
-          ∙ every-at (λ (k : ℕ). eqb (layerOf v k .parent) none || ltb (layerOf v k .parent) k) (length (v .layers)) l below
-          (ltb-true l (length (v .layers)) h))
-      go false h =
-          absurd (e (ap (λ (x : Layer). x .parent) (past-layers v l (ltb-false l (length (v .layers)) h))))
-
+module _ (v : Vir) (y : Layered v) where
   -- a climb by parents falls
   within-falls : (n l outer : ℕ) → within v n l outer ≡ true → outer ≤ l
   unfolding within
@@ -61,9 +46,8 @@ module _ (v : Vir) (below : parentsBelow v ≡ true) where
           → (within v n (layerOf v l .parent) outer ≡ true → outer ≤ layerOf v l .parent) → outer ≤ l
       go true root p q t r = omega (arith, eqb-true l outer p)
       go false true p q t r = absurd (true≢false (sym t))
-      go false false p q t r = omega (arith, r t, parent-below l (eqb-false (layerOf v l .parent) none q))
+      go false false p q t r = omega (arith, r t, parent-lower v y l (eqb-false (layerOf v l .parent) none q))
 
-module _ (v : Vir) (y : Layered v) where
   abbrev c : Counts
   c = countsOfVir v
 
@@ -104,7 +88,7 @@ module _ (v : Vir) (y : Layered v) where
           (right-true (parentsBelow v) (listedByOwnLayer v) rules) (ltb-true l (length (v .layers)) h)
       go false h =
           ap (λ (x : Layer). all (λ t. eqb (stageOf v t .layer) l) (x .stages))
-          (past-layers v l (ltb-false l (length (v .layers)) h))
+          (no-layer v l (ltb-false l (length (v .layers)) h))
           ∙ all-none (λ t. eqb (stageOf v t .layer) l)
 
   -- a test of all that the stages hold, at one stage
@@ -136,7 +120,7 @@ module _ (v : Vir) (y : Layered v) where
     lower : (d : ℕ) → within v (length (v .layers)) (source .layer) d ≡ true → leb d l ≡ true
     lower d h =
         le-leb d l
-        (omega (arith, own-layer, within-falls v (left-true (parentsBelow v) (listedByOwnLayer v) rules) (length (v .layers)) (source .layer) d h))
+        (omega (arith, own-layer, within-falls (length (v .layers)) (source .layer) d h))
 
     step-diverges : all (λ a. all (λ d. leb d l) (divergeTo (a .step))) (source .steps) ≡ true
     step-diverges =

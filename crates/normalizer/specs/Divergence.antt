@@ -1,6 +1,6 @@
 -- normalizer.rs: `layer_divergence` and `step_divergence`, which call each other.
 use mathlib.Core.Bool.{true, false}
-use mathlib.Core.List.{List, [], _∷_}
+use mathlib.Core.List.{List}
 use Prim.Native.Nat.{ℕ, zero, suc, min}
 use lib.Dec.{eqb}
 use Rattle.vir.specs.Ids.{none}

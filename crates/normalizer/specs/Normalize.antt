@@ -1,10 +1,9 @@
 -- normalizer.rs: `normalize_layer` and `normalize`.
-use mathlib.Core.Bool.{Bool, true, false}
+use mathlib.Core.Bool.{true, false}
 use mathlib.Core.List.{List, [], _∷_, _++_, map}
 use Prim.Native.Nat.{ℕ, zero, suc}
 use lib.Dec.{eqb, leb}
 use lib.ListN.{length, getD, set, replicate}
-use Rattle.vir.specs.declared.header.Header.{Header}
 use Rattle.vir.specs.declared.header.Header.the-variants.{Bare}
 use Rattle.vir.specs.declared.interface.InterfaceKind.the-variants.{Unconditional}
 use Rattle.vir.specs.declared.invocation.Invocation.{Invocation}
@@ -17,7 +16,7 @@ use Rattle.vir.specs.declared.step.Step.the-variants.{Invoke, Transfer, Diverge
 use Rattle.vir.specs.Ids.{none, inv, idx, inverse}
 use Rattle.image.specs.LayerRules.{transferTo}
 use Rattle.image.specs.Loops.{each}
-use Rattle.image.specs.Vir.{Action, Flex, Interface, Layer, Local, Port, Stage, Vir, interfaceOf, layerOf, stageOf}
+use Rattle.image.specs.Vir.{Action, Flex, Interface, Layer, Local, Port, Stage, Vir, layerOf, stageOf}
 use Rattle.normalizer.specs.Divergence.{stepDivergence, layerDivergence, subLayer}
 use Rattle.normalizer.specs.OpenWires.{Open, updateOpenWires}
 

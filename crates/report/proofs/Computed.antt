@@ -2,10 +2,9 @@
 use mathlib.Core.Path.{refl}
 use mathlib.Core.Bool.{true, false}
 use mathlib.Core.List.{List, [], _∷_}
-use Prim.Native.Nat.{ℕ}
 use Rattle.effect.specs.Example.{Example, Hold}
 use Rattle.image.specs.Kind.{concat}
-use Rattle.report.specs.Report.{Wire, noWire, Diag, Report, rowBytes, reportBytes}
+use Rattle.report.specs.Report.{noWire, Report, rowBytes, reportBytes}
 
 example : Report
 example = record {

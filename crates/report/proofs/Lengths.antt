@@ -1,7 +1,7 @@
 -- How long a report can be: 24 bytes, 4 for each interface, 128 for each row, 9 for each diagnostic that is kept.
-use mathlib.Core.Path.{_≡_, _∙_, sym, subst₂}
+use mathlib.Core.Path.{_∙_, sym, subst₂}
 use mathlib.Core.List.{List, [], _∷_, _++_}
-use Prim.Native.Nat.{ℕ, zero, suc, _+_, _*_, _<_, _≤_, min}
+use Prim.Native.Nat.{ℕ, suc, _+_, _*_, _<_, _≤_}
 use native.Mathlib.Nat.{mul-suc, add-comm, add-le-add}
 use native.Mathlib.Omega.{arith}
 use lib.ListN.{length, getD, take, length-append, length-take}

@@ -1,8 +1,7 @@
 -- Document 01, "The report": its parts, and their bytes, field by field.
-use mathlib.Core.Bool.{Bool, true, false, cond}
+use mathlib.Core.Bool.{Bool, false, cond}
 use mathlib.Core.List.{List, [], _∷_, _++_}
 use Prim.Native.Nat.{ℕ, _+_, _*_, min}
-use lib.Dec.{eqb}
 use lib.ListN.{length, take}
 use Rattle.image.specs.Encode.{u16Bytes, u32Bytes}
 use Rattle.image.specs.Kind.{concat}
