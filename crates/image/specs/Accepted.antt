@@ -14,7 +14,7 @@ use Rattle.records.specs.declared.record.StepRecord.{StepRecord}
 use Rattle.records.specs.declared.record.PortRecord.{PortRecord}
 use Rattle.records.specs.Bytes.{u16At}
 use Rattle.records.specs.Faults.{listAt}
-use Rattle.records.specs.Layout.{layersAt, interfacesAt, stagesAt, localsAt, typesAt, stepsAt, portsAt, Sized}
+use Rattle.records.specs.Layout.{layersAt, interfacesAt, stagesAt, localsAt, typesAt, stepsAt, portsAt, Sized, layerSize, interfaceSize, stageSize, localSize, typeSize, stepSize, portSize}
 use Rattle.records.specs.Records.{layerAt, interfaceAt, stageAt, localAt, typeAt, stepAt, portAt}
 
 -- the k-th entry of a list of refs
@@ -86,10 +86,10 @@ pub record PortFacts (c : Counts) (p : PortRecord) : Type 0 where
 -- bytes laid out by their counts, with every record's facts
 pub record Accepted (s : List ℕ) (c : Counts) : Type 0 where
   pub sized : Sized s c
-  pub layers : (k : ℕ) → k < c .layers → LayerFacts s c (layerAt s (layersAt c + 6 * k))
-  pub interfaces : (k : ℕ) → k < c .interfaces → InterfaceFacts s c (interfaceAt s (interfacesAt c + 9 * k))
-  pub stages : (k : ℕ) → k < c .stages → StageFacts s c (stageAt s (stagesAt c + 30 * k))
-  pub locals : (k : ℕ) → k < c .locals → LocalFacts c (localAt s (localsAt c + 7 * k))
-  pub types : (k : ℕ) → k < c .types → TypeFacts (typeAt s (typesAt c + 2 * k))
-  pub steps : (k : ℕ) → k < c .steps → StepFacts c (stepAt s (stepsAt c + 11 * k))
-  pub ports : (k : ℕ) → k < c .ports → PortFacts c (portAt s (portsAt c + 9 * k))
+  pub layers : (k : ℕ) → k < c .layers → LayerFacts s c (layerAt s (layersAt c + layerSize * k))
+  pub interfaces : (k : ℕ) → k < c .interfaces → InterfaceFacts s c (interfaceAt s (interfacesAt c + interfaceSize * k))
+  pub stages : (k : ℕ) → k < c .stages → StageFacts s c (stageAt s (stagesAt c + stageSize * k))
+  pub locals : (k : ℕ) → k < c .locals → LocalFacts c (localAt s (localsAt c + localSize * k))
+  pub types : (k : ℕ) → k < c .types → TypeFacts (typeAt s (typesAt c + typeSize * k))
+  pub steps : (k : ℕ) → k < c .steps → StepFacts c (stepAt s (stepsAt c + stepSize * k))
+  pub ports : (k : ℕ) → k < c .ports → PortFacts c (portAt s (portsAt c + portSize * k))

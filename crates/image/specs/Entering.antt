@@ -8,7 +8,7 @@ use Rattle.vir.specs.Ids.{none}
 use Rattle.records.specs.declared.layout.Counts.{Counts}
 use Rattle.records.specs.declared.record.Run.{Run}
 use Rattle.image.specs.Kind.{concat}
-use Rattle.records.specs.Layout.{stepsAt}
+use Rattle.records.specs.Layout.{stepsAt, stepSize}
 use Rattle.image.specs.LayerRules.{transferTo, divergeTo, within}
 use Rattle.records.specs.Records.{stepAt}
 use Rattle.image.specs.View.{collect, actionOfRecord}
@@ -16,7 +16,7 @@ use Rattle.image.specs.Vir.{Action, Vir, layerOf, interfaceOf}
 
 -- the step of a number, and the steps of a list
 abbrev pub actionAt : List ℕ → Counts → ℕ → Action
-actionAt s c k = actionOfRecord s c (stepAt s (stepsAt c + 11 * k))
+actionAt s c k = actionOfRecord s c (stepAt s (stepsAt c + stepSize * k))
 
 abbrev pub actionsOf : List ℕ → Counts → Run → List Action
 actionsOf s c run = collect (actionAt s c) (run .first) (run .count)

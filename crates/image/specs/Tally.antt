@@ -7,7 +7,7 @@ use lib.ListN.{getD, set}
 use Rattle.vir.specs.Ids.{none}
 use Rattle.records.specs.declared.layout.Counts.{Counts}
 use Rattle.records.specs.Bytes.{u16At}
-use Rattle.records.specs.Layout.{stagesAt}
+use Rattle.records.specs.Layout.{stagesAt, stageSize}
 
 -- none, one, several
 abbrev pub bump : ℕ → ℕ
@@ -19,7 +19,7 @@ tally (t ∷ ts) counts = tally ts (set counts t (bump (getD counts t 0)))
 
 -- a field of 16 bits of the stage of a number
 abbrev pub fieldIs : List ℕ → Counts → ℕ → ℕ → ℕ → Bool
-fieldIs s c f owner t = eqb (u16At s (stagesAt c + 30 * t + f)) owner
+fieldIs s c f owner t = eqb (u16At s (stagesAt c + stageSize * t + f)) owner
 
 -- an entry that is none counts for nothing
 abbrev pub tallyEntry : ℕ → List ℕ → List ℕ

@@ -31,7 +31,7 @@ use Rattle.records.specs.declared.record.TypeRecord.{TypeRecord}
 use Rattle.records.specs.declared.record.StepRecord.{StepRecord}
 use Rattle.records.specs.declared.record.PortRecord.{PortRecord}
 use Rattle.records.specs.Bytes.{u16At}
-use Rattle.records.specs.Layout.{countsOf, layersAt, interfacesAt, stagesAt, localsAt, typesAt, stepsAt, portsAt, refsAt}
+use Rattle.records.specs.Layout.{countsOf, layersAt, interfacesAt, stagesAt, localsAt, typesAt, stepsAt, portsAt, refsAt, layerSize, interfaceSize, stageSize, localSize, typeSize, stepSize, portSize, refSize}
 use Rattle.records.specs.Records.{layerAt, interfaceAt, stageAt, localAt, typeAt, stepAt, portAt}
 use Rattle.image.specs.Vir.{Layer, Interface, Port, Action, Stage, Local, Flex, Vir}
 
@@ -60,13 +60,13 @@ stepIn NoStep = Link 0
 module _ (s : List ℕ) (c : Counts) where
   -- the refs, ports and steps from a place of their section on
   abbrev pub refsFrom : Run → List ℕ
-  refsFrom run = collect (λ k. u16At s (refsAt c + 2 * k)) (run .first) (run .count)
+  refsFrom run = collect (λ k. u16At s (refsAt c + refSize * k)) (run .first) (run .count)
 
   abbrev pub portOfRecord : PortRecord → Port
   portOfRecord p = record { ty = p .ty .0; kind = portIn (portOf (p .kind) (p .a) (p .b)) }
 
   abbrev pub portsFrom : ℕ → ℕ → List Port
-  portsFrom = collect (λ k. portOfRecord (portAt s (portsAt c + 9 * k)))
+  portsFrom = collect (λ k. portOfRecord (portAt s (portsAt c + portSize * k)))
 
   abbrev pub actionOfRecord : StepRecord → Action
   actionOfRecord t = record { step = stepIn (stepOf (t .tag) (t .a) (t .b)); ports = portsFrom (t .ports .first) (t .ports .count) }
@@ -87,7 +87,7 @@ module _ (s : List ℕ) (c : Counts) where
     key = t .key;
     ports = portsFrom (t .ports .first) (t .ports .count);
     declarations = refsFrom (t .declarations);
-    steps = collect (λ k. actionOfRecord (stepAt s (stepsAt c + 11 * k))) (t .steps .first) (t .steps .count);
+    steps = collect (λ k. actionOfRecord (stepAt s (stepsAt c + stepSize * k))) (t .steps .first) (t .steps .count);
     wires = t .wires;
     transfer = t .transfer .0;
     payload = portsFrom (t .ports .first + t .ports .count) (t .payload);
@@ -102,11 +102,11 @@ flexOfRecord t = record { upright = t .upright; inverted = t .inverted }
 -- the image that the counts lay out
 unfoldable pub viewOf : List ℕ → Counts → Vir
 viewOf s c = record {
-  layers = collect (λ k. layerOfRecord s c (layerAt s (layersAt c + 6 * k))) 0 (c .layers);
-  interfaces = collect (λ k. interfaceOfRecord s c (interfaceAt s (interfacesAt c + 9 * k))) 0 (c .interfaces);
-  stages = collect (λ k. stageOfRecord s c (stageAt s (stagesAt c + 30 * k))) 0 (c .stages);
-  locals = collect (λ k. localOfRecord (localAt s (localsAt c + 7 * k))) 0 (c .locals);
-  types = collect (λ k. flexOfRecord (typeAt s (typesAt c + 2 * k))) 0 (c .types);
+  layers = collect (λ k. layerOfRecord s c (layerAt s (layersAt c + layerSize * k))) 0 (c .layers);
+  interfaces = collect (λ k. interfaceOfRecord s c (interfaceAt s (interfacesAt c + interfaceSize * k))) 0 (c .interfaces);
+  stages = collect (λ k. stageOfRecord s c (stageAt s (stagesAt c + stageSize * k))) 0 (c .stages);
+  locals = collect (λ k. localOfRecord (localAt s (localsAt c + localSize * k))) 0 (c .locals);
+  types = collect (λ k. flexOfRecord (typeAt s (typesAt c + typeSize * k))) 0 (c .types);
 }
 
 abbrev pub view : List ℕ → Vir

@@ -20,6 +20,7 @@ use crate::layered::own_layers;
 use crate::tally::counted;
 use records::bytes::u16_at;
 use records::layout::Counts;
+use records::layout::HEAD;
 use records::running::Running;
 use records::running::Walked;
 use records::walk::walk;
@@ -120,7 +121,7 @@ fn judge_records(s: &[u8], c: Counts) -> Answer
 pub fn check(s: &[u8]) -> Answer
     ensures { λ r. ⌜ r ≡ checkOf (now (s .entry)) ⌝ }
 {
-    if s.len() < 21 {
+    if s.len() < HEAD {
         return refused(2, 0);
     }
     if !marked(s) {

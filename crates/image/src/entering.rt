@@ -19,6 +19,11 @@ use crate::tally::bump;
 use records::bytes::u16_at;
 use records::bytes::u32_at;
 use records::layout::Counts;
+use records::layout::HEAD;
+use records::layout::INTERFACE;
+use records::layout::LAYER;
+use records::layout::STAGE;
+use records::layout::STEP;
 use records::record::Run;
 
 // The layer m is entered from l; `ok` is what the steps before came to.
@@ -30,7 +35,7 @@ fn enter(s: &[u8], c: Counts, l: u16, m: u16, ok: bool, counts: &mut [u8; 256]) 
 {
     let i = m as usize;
     counts[i] = bump(counts[i]);
-    let parent = u16_at(s, 21 + 6 * i);
+    let parent = u16_at(s, HEAD + LAYER * i);
     ok & ((parent == 65535) | (parent == l))
 }
 
@@ -42,12 +47,12 @@ fn enter_step(s: &[u8], c: Counts, l: u16, k: usize, ok: bool, counts: &mut [u8;
     ensures { λ r. ⌜ (r ≡ (ok && all (enterable (viewOf (now (s .entry)) c) l) (entersOf (viewOf (now (s .entry)) c) (actionAt (now (s .entry)) c k))))
         × (now (counts .exit) ≡ tally (entersOf (viewOf (now (s .entry)) c) (actionAt (now (s .entry)) c k)) (now (counts .entry))) ⌝ }
 {
-    let p = c.steps_at() + 11 * k;
+    let p = c.steps_at() + STEP * k;
     if s[p] != 6 {
         return ok;
     }
     let b = u16_at(s, p + 5);
-    let m = u16_at(s, c.interfaces_at() + 9 * (b as usize));
+    let m = u16_at(s, c.interfaces_at() + INTERFACE * (b as usize));
     enter(s, c, l, m, ok, counts)
 }
 
@@ -79,7 +84,7 @@ fn enter_stage(s: &[u8], c: Counts, t: u16, ok: bool, counts: &mut [u8; 256]) ->
         (entries (viewOf (now (s .entry)) c) (stageOf (viewOf (now (s .entry)) c) t))))
         × (now (counts .exit) ≡ tally (entries (viewOf (now (s .entry)) c) (stageOf (viewOf (now (s .entry)) c) t)) (now (counts .entry))) ⌝ }
 {
-    let p = c.stages_at() + 30 * (t as usize);
+    let p = c.stages_at() + STAGE * (t as usize);
     let l = u16_at(s, p + 6);
     let run = Run::read(s, p + 21);
     enter_run(s, c, l, run, ok, counts)
@@ -110,7 +115,7 @@ pub fn entered_once(s: &[u8], c: Counts, counts: &[u8; 256]) -> bool
     let mut l: u16 = 0;
     while l < c.layers {
         let i = l as usize;
-        let parent = u16_at(s, 21 + 6 * i);
+        let parent = u16_at(s, HEAD + LAYER * i);
         let n = counts[i];
         if !((parent == 65535) | (n == 1)) {
             return false;
@@ -128,7 +133,7 @@ fn diverge_step(s: &[u8], c: Counts, l: u16, k: usize, ok: bool) -> bool
     requires { ⌜ k < c .steps ⌝ }
     ensures { λ r. ⌜ r ≡ (ok && all (liesIn (viewOf (now (s .entry)) c) l) (divergesOf (actionAt (now (s .entry)) c k))) ⌝ }
 {
-    let p = c.steps_at() + 11 * k;
+    let p = c.steps_at() + STEP * k;
     if s[p] != 7 {
         return ok;
     }
@@ -162,7 +167,7 @@ fn diverge_stage(s: &[u8], c: Counts, t: u16, ok: bool) -> bool
     ensures { λ r. ⌜ r ≡ (ok && all (liesIn (viewOf (now (s .entry)) c) (stageOf (viewOf (now (s .entry)) c) t .layer))
         (targets (stageOf (viewOf (now (s .entry)) c) t))) ⌝ }
 {
-    let p = c.stages_at() + 30 * (t as usize);
+    let p = c.stages_at() + STAGE * (t as usize);
     let l = u16_at(s, p + 6);
     let run = Run::read(s, p + 21);
     diverge_run(s, c, l, run, ok)

@@ -9,6 +9,7 @@ ghost use Rattle.image.specs.View.{viewOf};
 ghost use Rattle.image.specs.Vir.{stageOf};
 use records::bytes::u16_at;
 use records::layout::Counts;
+use records::layout::STAGE;
 
 // Whether no stage has a transfer.
 pub fn transfers_none(s: &[u8], c: Counts) -> bool
@@ -21,7 +22,7 @@ pub fn transfers_none(s: &[u8], c: Counts) -> bool
         if u16_at(s, p) != 65535 {
             return false;
         }
-        p += 30;
+        p += STAGE;
         t += 1;
     }
     true

@@ -12,6 +12,7 @@ use crate::flat::transfers_none;
 use crate::tally::counted;
 use crate::tally::tally_run;
 use records::layout::Counts;
+use records::layout::INTERFACE;
 use records::record::InterfaceRecord;
 
 // One interface: the stages that it lists have it in their own field, and are counted.
@@ -22,7 +23,7 @@ fn own_interface(s: &[u8], c: Counts, i: u16, ok: bool, counts: &mut [u8; 256]) 
         (stagesOf (interfaceOf (viewOf (now (s .entry)) c) i))))
         × (now (counts .exit) ≡ tally (stagesOf (interfaceOf (viewOf (now (s .entry)) c) i)) (now (counts .entry))) ⌝ }
 {
-    let record = InterfaceRecord::read(s, c.interfaces_at() + 9 * (i as usize));
+    let record = InterfaceRecord::read(s, c.interfaces_at() + INTERFACE * (i as usize));
     if record.kind == 4 {
         return ok;
     }

@@ -8,19 +8,22 @@ ghost use Rattle.image.specs.LayerRules.{parentsBelow, interfacesLie, wi
 ghost use Rattle.image.specs.View.{viewOf};
 use records::bytes::u16_at;
 use records::layout::Counts;
+use records::layout::HEAD;
+use records::layout::INTERFACE;
+use records::layout::LAYER;
 
 pub fn parents_below(s: &[u8], c: Counts) -> bool
     requires { ⌜ Sized (now s) c ⌝ }
     ensures { λ r. ⌜ r ≡ parentsBelow (viewOf (now (s .entry)) c) ⌝ }
 {
     let mut l: u16 = 0;
-    let mut p: usize = 21;
+    let mut p: usize = HEAD;
     while l < c.layers {
         let parent = u16_at(s, p);
         if !((parent == 65535) | (parent < l)) {
             return false;
         }
-        p += 6;
+        p += LAYER;
         l += 1;
     }
     true
@@ -36,7 +39,7 @@ pub fn interfaces_lie(s: &[u8], c: Counts) -> bool
         if c.layers <= u16_at(s, p) {
             return false;
         }
-        p += 9;
+        p += INTERFACE;
         i += 1;
     }
     true
@@ -51,7 +54,7 @@ pub fn lies_within(s: &[u8], c: Counts, l: u16, outer: u16) -> bool
 {
     let mut at = l;
     while at != outer {
-        let parent = u16_at(s, 21 + 6 * (at as usize));
+        let parent = u16_at(s, HEAD + LAYER * (at as usize));
         if parent == 65535 {
             return false;
         }

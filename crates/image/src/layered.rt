@@ -11,6 +11,8 @@ ghost use Rattle.image.specs.View.{viewOf};
 ghost use Rattle.image.specs.Vir.{layerOf, stageOf};
 use crate::tally::tally_run;
 use records::layout::Counts;
+use records::layout::HEAD;
+use records::layout::LAYER;
 use records::record::LayerRecord;
 
 // One layer: the stages that it lists have it in their own field, and are counted.
@@ -21,7 +23,7 @@ fn own_layer(s: &[u8], c: Counts, l: u16, ok: bool, counts: &mut [u8; 256]) -> b
         (layerOf (viewOf (now (s .entry)) c) l .stages)))
         × (now (counts .exit) ≡ tally (layerOf (viewOf (now (s .entry)) c) l .stages) (now (counts .entry))) ⌝ }
 {
-    let record = LayerRecord::read(s, 21 + 6 * (l as usize));
+    let record = LayerRecord::read(s, HEAD + LAYER * (l as usize));
     let list = record.stages;
     ok & tally_run(s, c, list, 6, l, counts)
 }

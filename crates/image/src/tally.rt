@@ -11,6 +11,7 @@ ghost use Rattle.image.specs.Tally.{bump, tally, fieldIs, tallyEntry, ow
 ghost use Rattle.image.specs.View.{refsFrom};
 use records::bytes::u16_at;
 use records::layout::Counts;
+use records::layout::STAGE;
 use records::record::Run;
 
 pub fn bump(n: u8) -> u8
@@ -29,7 +30,7 @@ fn tally_stage(s: &[u8], c: Counts, f: usize, owner: u16, t: u16, counts: &mut [
 {
     let i = t as usize;
     counts[i] = bump(counts[i]);
-    u16_at(s, c.stages_at() + 30 * i + f) == owner
+    u16_at(s, c.stages_at() + STAGE * i + f) == owner
 }
 
 // An entry that may be none; `ok` is what the entries before it came to.

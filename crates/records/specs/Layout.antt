@@ -23,34 +23,61 @@ countsOf s = record {
   refs = u16At s 19;
 }
 
--- a layer has 6 bytes, an interface 9, a stage 30, a local 7, a type 2, a step 11, a port 9 and a ref 2
+-- the bytes of the header, and of a record of each section
+abbrev pub headSize : ℕ
+headSize = 21
+
+abbrev pub layerSize : ℕ
+layerSize = 6
+
+abbrev pub interfaceSize : ℕ
+interfaceSize = 9
+
+abbrev pub stageSize : ℕ
+stageSize = 30
+
+abbrev pub localSize : ℕ
+localSize = 7
+
+abbrev pub typeSize : ℕ
+typeSize = 2
+
+abbrev pub stepSize : ℕ
+stepSize = 11
+
+abbrev pub portSize : ℕ
+portSize = 9
+
+abbrev pub refSize : ℕ
+refSize = 2
+
 abbrev pub layersAt : Counts → ℕ
-layersAt c = 21
+layersAt c = headSize
 
 abbrev pub interfacesAt : Counts → ℕ
-interfacesAt c = layersAt c + 6 * c .layers
+interfacesAt c = layersAt c + layerSize * c .layers
 
 abbrev pub stagesAt : Counts → ℕ
-stagesAt c = interfacesAt c + 9 * c .interfaces
+stagesAt c = interfacesAt c + interfaceSize * c .interfaces
 
 abbrev pub localsAt : Counts → ℕ
-localsAt c = stagesAt c + 30 * c .stages
+localsAt c = stagesAt c + stageSize * c .stages
 
 abbrev pub typesAt : Counts → ℕ
-typesAt c = localsAt c + 7 * c .locals
+typesAt c = localsAt c + localSize * c .locals
 
 abbrev pub stepsAt : Counts → ℕ
-stepsAt c = typesAt c + 2 * c .types
+stepsAt c = typesAt c + typeSize * c .types
 
 abbrev pub portsAt : Counts → ℕ
-portsAt c = stepsAt c + 11 * c .steps
+portsAt c = stepsAt c + stepSize * c .steps
 
 abbrev pub refsAt : Counts → ℕ
-refsAt c = portsAt c + 9 * c .ports
+refsAt c = portsAt c + portSize * c .ports
 
 -- the length that the counts give
 abbrev pub lengthOf : Counts → ℕ
-lengthOf c = refsAt c + 2 * c .refs
+lengthOf c = refsAt c + refSize * c .refs
 
 -- interfaces above 0, and no count over its maximum
 abbrev pub within : Counts → Bool
@@ -82,13 +109,13 @@ abbrev pub sections : List Section
 sections = Layers ∷ Interfaces ∷ Stages ∷ Locals ∷ Types ∷ Steps ∷ Ports ∷ []
 
 abbrev pub sizeOf : Section → ℕ
-sizeOf Layers = 6
-sizeOf Interfaces = 9
-sizeOf Stages = 30
-sizeOf Locals = 7
-sizeOf Types = 2
-sizeOf Steps = 11
-sizeOf Ports = 9
+sizeOf Layers = layerSize
+sizeOf Interfaces = interfaceSize
+sizeOf Stages = stageSize
+sizeOf Locals = localSize
+sizeOf Types = typeSize
+sizeOf Steps = stepSize
+sizeOf Ports = portSize
 
 abbrev pub countOf : Counts → Section → ℕ
 countOf c Layers = c .layers

@@ -5,6 +5,25 @@ ghost use lib.ListN.{length, getD};
 ghost use Rattle.records.specs.Layout.{countsOf, interfacesAt, stagesAt, localsAt, typesAt, stepsAt, portsAt, refsAt, lengthOf, within, sections, sizeOf, countOf, startOf};
 use crate::bytes::u16_at;
 
+// The header's bytes, then those of a record of each section.
+pub const HEAD: usize = 21;
+
+pub const LAYER: usize = 6;
+
+pub const INTERFACE: usize = 9;
+
+pub const STAGE: usize = 30;
+
+pub const LOCAL: usize = 7;
+
+pub const TYPE: usize = 2;
+
+pub const STEP: usize = 11;
+
+pub const PORT: usize = 9;
+
+pub const REF: usize = 2;
+
 pub struct Counts {
     pub layers: u16,
     pub interfaces: u16,
@@ -61,50 +80,50 @@ impl Counts {
     pub fn interfaces_at(self) -> usize
         ensures { λ r. ⌜ r ≡ interfacesAt self ⌝ }
     {
-        21 + 6 * (self.layers as usize)
+        HEAD + LAYER * (self.layers as usize)
     }
 
     pub fn stages_at(self) -> usize
         ensures { λ r. ⌜ r ≡ stagesAt self ⌝ }
     {
-        self.interfaces_at() + 9 * (self.interfaces as usize)
+        self.interfaces_at() + INTERFACE * (self.interfaces as usize)
     }
 
     pub fn locals_at(self) -> usize
         ensures { λ r. ⌜ r ≡ localsAt self ⌝ }
     {
-        self.stages_at() + 30 * (self.stages as usize)
+        self.stages_at() + STAGE * (self.stages as usize)
     }
 
     pub fn types_at(self) -> usize
         ensures { λ r. ⌜ r ≡ typesAt self ⌝ }
     {
-        self.locals_at() + 7 * (self.locals as usize)
+        self.locals_at() + LOCAL * (self.locals as usize)
     }
 
     pub fn steps_at(self) -> usize
         ensures { λ r. ⌜ r ≡ stepsAt self ⌝ }
     {
-        self.types_at() + 2 * (self.types as usize)
+        self.types_at() + TYPE * (self.types as usize)
     }
 
     pub fn ports_at(self) -> usize
         ensures { λ r. ⌜ r ≡ portsAt self ⌝ }
     {
-        self.steps_at() + 11 * (self.steps as usize)
+        self.steps_at() + STEP * (self.steps as usize)
     }
 
     pub fn refs_at(self) -> usize
         ensures { λ r. ⌜ r ≡ refsAt self ⌝ }
     {
-        self.ports_at() + 9 * (self.ports as usize)
+        self.ports_at() + PORT * (self.ports as usize)
     }
 
     // The length that the counts give.
     pub fn length(self) -> usize
         ensures { λ r. ⌜ r ≡ lengthOf self ⌝ }
     {
-        self.refs_at() + 2 * (self.refs as usize)
+        self.refs_at() + REF * (self.refs as usize)
     }
 }
 
@@ -113,13 +132,13 @@ impl Section {
         ensures { λ r. ⌜ r ≡ sizeOf self ⌝ }
     {
         match self {
-            Section::Layers => 6,
-            Section::Interfaces => 9,
-            Section::Stages => 30,
-            Section::Locals => 7,
-            Section::Types => 2,
-            Section::Steps => 11,
-            Section::Ports => 9,
+            Section::Layers => LAYER,
+            Section::Interfaces => INTERFACE,
+            Section::Stages => STAGE,
+            Section::Locals => LOCAL,
+            Section::Types => TYPE,
+            Section::Steps => STEP,
+            Section::Ports => PORT,
         }
     }
 
@@ -141,7 +160,7 @@ impl Section {
         ensures { λ r. ⌜ r ≡ startOf c self ⌝ }
     {
         match self {
-            Section::Layers => 21,
+            Section::Layers => HEAD,
             Section::Interfaces => c.interfaces_at(),
             Section::Stages => c.stages_at(),
             Section::Locals => c.locals_at(),
