@@ -11,6 +11,7 @@ use borrow.Author.Tests.{eq-eqb, ne-eqb, eqb-false, ltb-true}
 use Rattle.vir.specs.Ids.{none}
 use Rattle.records.specs.declared.layout.Counts.{Counts}
 use Rattle.records.specs.Bytes.{u16At}
+use Rattle.image.specs.Entering.{liesIn}
 use Rattle.image.specs.LayerRules.{parentsBelow, within}
 use Rattle.records.specs.Layout.{layersAt}
 use Rattle.image.specs.View.{viewOf}
@@ -68,6 +69,10 @@ module _ (v : Vir) (below : parentsBelow v ≡ true) where
       let less : parentOf v l < l = parent-below l k e in
       within-step v outer n l (ne-eqb l outer a) (ne-eqb (parentOf v l) none e)
       ∙ within-more outer n (parentOf v l) (omega arith) (omega arith)
+
+-- a layer is itself, with no climb
+pub lies-in-itself : (s : List ℕ) (c : Counts) (l : ℕ) → l < c .layers → liesIn (viewOf s c) l l ≡ true
+lies-in-itself s c l h = within-found (viewOf s c) l (length (viewOf s c .layers)) l (omega (arith, length-layers s c)) refl
 
 -- a climb has come from l to at, and the answer is at's
 pub record Climbed (s : List ℕ) (c : Counts) (outer l at : ℕ) : Type 0 where

@@ -1,6 +1,6 @@
 -- Numbers that records name in a row: a test of each of them, and their count, taken from the front, one record at a time.
 use mathlib.Core.Path.{_≡_, _∙_, refl, sym, ap, ap₂}
-use mathlib.Core.Bool.{Bool, _&&_, and-true, and-assoc}
+use mathlib.Core.Bool.{Bool, true, false, _&&_, and-true, and-false, and-assoc}
 use mathlib.Core.List.{List, [], _∷_, _++_}
 use Prim.Native.Nat.{ℕ, zero, suc, _+_, _-_}
 use native.Mathlib.Numerals.{add-one}
@@ -25,6 +25,13 @@ module _ (f : ℕ → Bool) (ok : Bool) {xs : List ℕ} where
   pub pass-one : {m : ℕ} {r : Bool} → xs ≡ m ∷ [] → r ≡ (ok && f m) → r ≡ (ok && all f xs)
   unfolding all
   pass-one {m} e p = p ∙ ap (λ (b : Bool). ok && b) (sym (and-true (f m))) ∙ sym (ap (λ (l : List ℕ). ok && all f l) e)
+
+  -- .. that is known to pass, or to fail
+  pub pass-known : {m : ℕ} → xs ≡ m ∷ [] → f m ≡ true → ok ≡ (ok && all f xs)
+  pass-known e h = pass-one e (sym (and-true ok) ∙ ap (λ (b : Bool). ok && b) (sym h))
+
+  pub pass-fails : {m : ℕ} → xs ≡ m ∷ [] → f m ≡ false → false ≡ (ok && all f xs)
+  pass-fails e h = pass-one e (sym (and-false ok) ∙ ap (λ (b : Bool). ok && b) (sym h))
 
 module _ (counts : List ℕ) {xs : List ℕ} where
   pub count-none : xs ≡ [] → counts ≡ tally xs counts

@@ -125,20 +125,34 @@ pub fn entered_once(s: &[u8], c: Counts, counts: &[u8; 256]) -> bool
     true
 }
 
-// The step k, which stands in the layer l, names l or a layer around it if it is a Diverge.
-fn diverge_step(s: &[u8], c: Counts, l: u16, k: usize, ok: bool) -> bool
+// What the Diverges so far came to, and a layer that theirs is or lies in: the last that one of them named.
+struct Around {
+    ok: bool,
+    known: u16,
+}
+
+// The step k, which stands in the layer l, names l or a layer around it if it is a Diverge. Jumps to the same layer climb once.
+fn diverge_step(s: &[u8], c: Counts, l: u16, k: usize, ok: bool, known: u16) -> Around
     requires { ⌜ Accepted (now s) c ⌝ }
     requires { ⌜ parentsBelow (viewOf (now s) c) ≡ true ⌝ }
     requires { ⌜ l < c .layers ⌝ }
     requires { ⌜ k < c .steps ⌝ }
-    ensures { λ r. ⌜ r ≡ (ok && all (liesIn (viewOf (now (s .entry)) c) l) (divergesOf (actionAt (now (s .entry)) c k))) ⌝ }
+    requires { ⌜ liesIn (viewOf (now s) c) l known ≡ true ⌝ }
+    ensures { λ r. ⌜ (r .ok ≡ (ok && all (liesIn (viewOf (now (s .entry)) c) l) (divergesOf (actionAt (now (s .entry)) c k))))
+        × (liesIn (viewOf (now (s .entry)) c) l (r .known) ≡ true) ⌝ }
 {
     let p = c.steps_at() + STEP * k;
     if s[p] != 7 {
-        return ok;
+        return Around { ok, known };
     }
-    let a = u32_at(s, p + 1);
-    ok & lies_within(s, c, l, a as u16)
+    let m = u32_at(s, p + 1) as u16;
+    if m == known {
+        return Around { ok, known };
+    }
+    if lies_within(s, c, l, m) {
+        return Around { ok, known: m };
+    }
+    Around { ok: false, known }
 }
 
 fn diverge_run(s: &[u8], c: Counts, l: u16, run: Run, before: bool) -> bool
@@ -151,8 +165,11 @@ fn diverge_run(s: &[u8], c: Counts, l: u16, run: Run, before: bool) -> bool
     let mut k = run.first as usize;
     let mut left = run.count;
     let mut ok = before;
+    let mut known = l;
     while left != 0 {
-        ok = diverge_step(s, c, l, k, ok);
+        let next = diverge_step(s, c, l, k, ok, known);
+        ok = next.ok;
+        known = next.known;
         k += 1;
         left -= 1;
     }

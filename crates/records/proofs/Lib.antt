@@ -1,3 +1,4 @@
+pub mod Arities
 pub mod Every
 pub mod Fits
 pub mod Guards

@@ -1,5 +1,6 @@
 -- Walks over the records: what is ahead gives what the whole gives.
-use mathlib.Core.Path.{_≡_, _∙_, refl, sym, ap}
+use mathlib.Core.Path.{_≡_, _∙_, refl, sym, ap, ap₂}
+use mathlib.Core.Bool.{Bool, true, cond, _&&_}
 use mathlib.Core.List.{List, [], _∷_}
 use Prim.Native.Nat.{ℕ, zero, suc, _+_, _*_, _-_, _≤_, _<_}
 use native.Mathlib.Numerals.{add-one}
@@ -14,8 +15,12 @@ use Rattle.records.specs.declared.running.Judged.{Judged}
 use Rattle.records.specs.declared.running.Judged.the-variants.{Fault, Next}
 use Rattle.records.specs.declared.running.Walked.{Walked}
 use Rattle.records.specs.declared.running.Walked.the-variants.{At, Clean}
+use Rattle.records.specs.Bytes.{u8At}
+use Rattle.records.specs.Every.{every}
+use Rattle.records.specs.Faults.{flagsGood}
 use Rattle.records.specs.Judge.{judge, after, walk, walkSection, onwards, walkAll}
-use Rattle.records.specs.Layout.{sections, sizeOf, countOf, startOf, lengthOf, Sized}
+use Rattle.records.specs.Layout.{typesAt, typeSize, sections, sizeOf, countOf, startOf, lengthOf, Sized}
+use Rattle.records.proofs.Every.{every-at}
 
 -- every section ends within the bytes
 section-room : (s : List ℕ) (c : Counts) (x : Section) → Sized s c → startOf c x + sizeOf x * countOf c x ≤ length s
@@ -45,7 +50,7 @@ module _ {s : List ℕ} {c : Counts} {x : Section} {target : Walked} where
   walking-fault {left = zero} w h e = absurd (h refl)
   walking-fault {left = suc n} {p} w h e = sym (ap (λ (j : Judged). after p j (λ q. walk (judge x s c) (sizeOf x) n (p + sizeOf x) q)) e) ∙ w .ahead
 
-  walking-on : {left p : ℕ} {r q : Running} → Walking s c x target left p r → (left ≡ 0 → ⊥) → judge x s c p r ≡ Next q
+  pub walking-on : {left p : ℕ} {r q : Running} → Walking s c x target left p r → (left ≡ 0 → ⊥) → judge x s c p r ≡ Next q
       → Walking s c x target (left - 1) (p + sizeOf x) q
   unfolding walk
   walking-on {left = zero} w h e = absurd (h refl)
@@ -58,14 +63,27 @@ module _ {s : List ℕ} {c : Counts} {x : Section} {target : Walked} where
             ∙ sym (ap (λ (j : Judged). after p j (λ y. walk (judge x s c) (sizeOf x) n (p + sizeOf x) y)) e) ∙ w .ahead;
       }
 
-  -- .. with the size as the code has it
-  pub walking-next : {left p size : ℕ} {r q : Running} → size ≡ sizeOf x → Walking s c x target left p r → (left ≡ 0 → ⊥) → judge x s c p r ≡ Next q
-      → Walking s c x target (left - 1) (p + size) q
-  walking-next z w h e = rw z (walking-on w h e)
-
   pub walking-end : {left p : ℕ} {r : Running} → Walking s c x target left p r → left ≡ 0 → Clean r ≡ target
   unfolding walk
   walking-end {left} {p} {r} w h = sym (ap (λ (k : ℕ). walk (judge x s c) (sizeOf x) k p r) h) ∙ w .ahead
+
+-- types whose bytes are all good are passed
+types-pass : (s : List ℕ) (c : Counts) (n p : ℕ) (r : Running) → ((k : ℕ) → k < 2 * n → flagsGood (u8At s (p + k)) ≡ true)
+    → Clean r ≡ walk (judge Types s c) typeSize n p r
+unfolding walk
+types-pass s c zero p r h = refl
+types-pass s c (suc n) p r h =
+    let first : flagsGood (u8At s p) ≡ true = ap (λ (q : ℕ). flagsGood (u8At s q)) (omega arith) ∙ h 0 (omega arith) in
+    types-pass s c n (p + typeSize) r
+    (λ k l. ap (λ (q : ℕ). flagsGood (u8At s q)) (omega arith) ∙ h (2 + k) (omega arith))
+    ∙ sym
+    (ap₂ (λ (a b : Bool). after p (cond (a && b) (Next r) Fault) (λ q. walk (judge Types s c) typeSize n (p + typeSize) q)) first
+    (h 1 (omega arith)))
+
+pub types-passed : (s : List ℕ) (c : Counts) (r : Running) → every (2 * c .types) (λ k. flagsGood (u8At s (typesAt c + k))) ≡ true
+    → Clean r ≡ walkSection s c Types r
+types-passed s c r h =
+    types-pass s c (c .types) (typesAt c) r (λ k l. every-at (λ k. flagsGood (u8At s (typesAt c + k))) (2 * c .types) k h l)
 
 -- the sections from the k-th on
 pub record Passing (s : List ℕ) (c : Counts) (target : Walked) (k : ℕ) (r : Running) : Type 0 where

@@ -26,8 +26,6 @@ use vir::header::Header;
 use vir::ids::Type;
 use vir::interface::FoundKind;
 use vir::interface::InterfaceKind;
-use vir::step::FoundStep;
-use vir::step::Step;
 
 fn or_none(n: u16, i: u16) -> bool
     ensures { λ r. ⌜ r ≡ orNone n i ⌝ }
@@ -108,13 +106,65 @@ fn header_has(tag: u8, count: u16) -> bool
     }
 }
 
+// The fewest and the most ports of each tag, as `Step::ports` has them: to look them up is quicker than to make the step.
+const LEAST: [u16; 21] = [
+    0,
+    1,
+    1,
+    1,
+    1,
+    2,
+    0,
+    0,
+    2,
+    1,
+    1,
+    1,
+    2,
+    2,
+    2,
+    3,
+    1,
+    1,
+    1,
+    2,
+    3,
+];
+
+const MOST: [u16; 21] = [
+    0,
+    1,
+    1,
+    1,
+    1,
+    2,
+    1,
+    1,
+    2,
+    65535,
+    1,
+    65535,
+    2,
+    2,
+    2,
+    3,
+    65535,
+    65535,
+    65535,
+    2,
+    3,
+];
+
+// A Diverge without an interface has none.
 fn step_has(t: StepRecord) -> bool
     ensures { λ r. ⌜ r ≡ stepHas (stepOf (t .tag) (t .a) (t .b)) (t .ports .count) ⌝ }
 {
-    match Step::from_fields(t.tag, t.a, t.b) {
-        FoundStep::Step(step) => step.ports().allows(t.ports.count),
-        FoundStep::Nothing => false,
+    if 21 <= t.tag {
+        return false;
     }
+    let k = t.tag as usize;
+    let n = t.ports.count;
+    ((t.tag != 7) | (t.b != 65535) | (n == 0)) & (LEAST[k] <= n) & (n <= MOST[k])
 }
 
 fn layer_fields(c: Counts, r: Running, l: LayerRecord) -> bool

@@ -1,29 +1,33 @@
 use mathlib.Core.Path.{_≡_, refl}
-use mathlib.Core.Bool.{_&&_}
+use mathlib.Core.Bool.{true, _&&_}
 use Prim.Native.Nat.{_+_, _<_}
 use native.Mathlib.Omega.{arith}
 use borrow.Author.Needs.{needs}
 use Rattle.image.specs.Entering.{actionAt, divergesOf, liesIn}
 use Rattle.image.specs.Kind.{all, concat}
 use Rattle.image.specs.View.{collect, viewOf}
+use Rattle.image.proofs.Climbing.{lies-in-itself}
 use Rattle.image.proofs.Passing.{Passing, passing-start, passing-on, passing-end}
 use Rattle.image.proofs.entering.diverge_run.Statement.{statement}
 use Rattle.image.proofs.entering.diverge_run.Tie as tie
 
 abbrev Inv-loop : tie.InvT-loop
-Inv-loop s c l before k₀ left₀ ok₀ k left ok =
+Inv-loop s c l before k₀ left₀ ok₀ known₀ k left ok known =
     (k + left ≡ k₀ + left₀)
     × Passing (liesIn (viewOf s c) l) divergesOf (actionAt s c)
     (before && all (liesIn (viewOf s c) l) (concat divergesOf (collect (actionAt s c) k₀ left₀))) k left ok
+    × (liesIn (viewOf s c) l known ≡ true)
 
 abbrev μ-loop : tie.MeasureT-loop
-μ-loop s c l before k₀ left₀ ok₀ k left ok = left
+μ-loop s c l before k₀ left₀ ok₀ known₀ k left ok known = left
 
 cast-k : tie.Need-cast-k Inv-loop μ-loop
 cast-k c = search needs
 
 loop-holds : tie.Need-loop-holds Inv-loop μ-loop
-loop-holds c = (refl, passing-start _ _ _ _ _ _)
+loop-holds c =
+    let start = c .before .before in
+    (refl, passing-start _ _ _ _ _ _, lies-in-itself (start .args .s .now) (start .args .c) (start .args .l) (start .pre .1 .1 .0))
 
 diverge-step-requires : tie.Need-diverge-step-requires Inv-loop μ-loop
 diverge-step-requires c κs =
@@ -31,7 +35,7 @@ diverge-step-requires c κs =
     let start = c .before .before .before .before in
     let some : loop .left ≡ 0 → ⊥ = c .loop-test .taken in
     let inside : loop .k < start .args .c .steps = omega (arith, loop .inv .0, start .pre .1 .1 .1) in
-    (start .pre .0, (start .pre .1 .0, (start .pre .1 .1 .0, inside)))
+    (start .pre .0, (start .pre .1 .0, (start .pre .1 .1 .0, (inside, loop .inv .2))))
 
 add-k : tie.Need-add-k Inv-loop μ-loop
 add-k c = search needs
@@ -46,7 +50,7 @@ loop-again : tie.Need-loop-again Inv-loop μ-loop
 loop-again c =
     let loop = c .before .before .loop in
     let some : loop .left ≡ 0 → ⊥ = c .before .loop-test .taken in
-    (omega (arith, loop .inv .0), passing-on (loop .inv .1) some (c .diverge-step .ensures))
+    (omega (arith, loop .inv .0), passing-on (loop .inv .1) some (c .diverge-step .ensures .0), c .diverge-step .ensures .1)
 
 returns : tie.Need-returns Inv-loop μ-loop
 returns c = passing-end (c .before .loop .inv .1) (c .loop-test .left)

@@ -1,5 +1,5 @@
 use mathlib.Core.Path.{_≡_, _∙_, sym, ap}
-use mathlib.Core.Bool.{Bool, _&&_}
+use mathlib.Core.Bool.{Bool}
 use mathlib.Core.List.{List, _∷_, []}
 use Prim.Native.Nat.{ℕ, _+_, _*_, _<_}
 use native.Mathlib.Omega.{arith}
@@ -13,7 +13,7 @@ use Rattle.records.specs.Layout.{stepsAt}
 use Rattle.records.specs.Records.{stepAt}
 use Rattle.image.specs.View.{viewOf}
 use Rattle.image.proofs.Diverging.{diverges-none, diverges-one}
-use Rattle.image.proofs.Passing.{pass-none, pass-one}
+use Rattle.image.proofs.Passing.{pass-none, pass-known, pass-fails}
 use Rattle.image.proofs.entering.diverge_step.Statement.{statement}
 use Rattle.image.proofs.entering.diverge_step.Tie as tie
 
@@ -51,9 +51,11 @@ module _ (c : tie.After-steps-at) where
 
 returns : tie.Need-returns
 returns c =
-    let b = c .before .before in
-    pass-none (liesIn (viewOf (s b) (counts b)) (start b .args .l)) (start b .args .ok)
-    (diverges-none (s b) (counts b) (k b) (λ e. c .if1 .taken (ap (u8At (s b)) (place b) ∙ e)))
+    let b = c .before .before in (
+      pass-none (liesIn (viewOf (s b) (counts b)) (start b .args .l)) (start b .args .ok)
+          (diverges-none (s b) (counts b) (k b) (λ e. c .if1 .taken (ap (u8At (s b)) (place b) ∙ e))),
+      start b .pre .1 .1 .1 .1,
+    )
 
 add-u32-at : tie.Need-add-u32-at
 add-u32-at c = search needs
@@ -72,24 +74,41 @@ module _ (c : tie.After-u32-at) where
   a-is = c .u32-at .ensures ∙ ap (λ (p : ℕ). u32At (s steps-at) (p + 1)) (place steps-at)
 
   below : step steps-at .a < counts steps-at .layers
-  below = start steps-at .pre .0 .steps (k steps-at) (start steps-at .pre .1 .1 .1) .layer diverges
+  below = start steps-at .pre .0 .steps (k steps-at) (start steps-at .pre .1 .1 .1 .0) .layer diverges
 
   named : divergesOf (actionAt (s steps-at) (counts steps-at) (k steps-at)) ≡ c .u32-at .result ∷ []
   named =
       let small : step steps-at .a < none = omega (arith, below, start steps-at .pre .0 .sized .layers) in
       diverges-one (s steps-at) (counts steps-at) (k steps-at) diverges small ∙ ap {B = List ℕ} (λ (m : ℕ). m ∷ []) (sym a-is)
 
-cast-lies-within : tie.Need-cast-lies-within
-cast-lies-within c = omega (arith, a-is c, below c, start (steps-at c) .pre .0 .sized .layers)
+cast-m : tie.Need-cast-m
+cast-m c = omega (arith, a-is c, below c, start (steps-at c) .pre .0 .sized .layers)
 
-lies-within-requires : tie.Need-lies-within-requires
-lies-within-requires c κs = search needs
+-- the layers that the step's layer lies in
+abbrev around : tie.After-u32-at → ℕ → Bool
+around c = liesIn (viewOf (s (steps-at c)) (counts (steps-at c))) (start (steps-at c) .args .l)
 
 returns-2 : tie.Need-returns-2
 returns-2 c =
     let u = c .before in
-    let args = start (steps-at u) .args in
-    pass-one (liesIn (viewOf (args .s .now) (args .c)) (args .l)) (args .ok) (named u) (ap (λ (b : Bool). args .ok && b) (c .lies-within .ensures))
+    let known = start (steps-at u) .pre .1 .1 .1 .1 in
+    (pass-known (around u) (start (steps-at u) .args .ok) (named u) (ap (around u) (c .if2 .taken) ∙ known), known)
+
+lies-within-requires : tie.Need-lies-within-requires
+lies-within-requires c κs = search needs
+
+returns-3 : tie.Need-returns-3
+returns-3 c =
+    let u = c .before .before .before in
+    let lies = sym (c .before .lies-within .ensures) ∙ c .if3 .taken in
+    (pass-known (around u) (start (steps-at u) .args .ok) (named u) lies, lies)
+
+returns-4 : tie.Need-returns-4
+returns-4 c =
+    let u = c .before .before .before in (
+      pass-fails (around u) (start (steps-at u) .args .ok) (named u) (sym (c .before .lies-within .ensures) ∙ c .if3 .left),
+      start (steps-at u) .pre .1 .1 .1 .1,
+    )
 
 pub diverge-step-spec : {M : Type 1} → statement M
 diverge-step-spec =
@@ -102,6 +121,8 @@ diverge-step-spec =
     returns
     add-u32-at
     u32-at-requires
-    cast-lies-within
+    cast-m
+    returns-2
     lies-within-requires
-    returns-2)
+    returns-3
+    returns-4)

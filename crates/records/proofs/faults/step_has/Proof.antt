@@ -1,44 +1,41 @@
-use mathlib.Core.Path.{_∙_, sym, ap}
-use Rattle.vir.specs.declared.arity.Arity.{Arity}
-use Rattle.vir.specs.declared.step.FoundStep.{FoundStep}
-use Rattle.vir.specs.Arity.{allows}
-use Rattle.records.specs.Faults.{stepHas}
 use borrow.Author.Needs.{needs}
+use Rattle.records.proofs.Arities.{step-ranged, step-past}
 use Rattle.records.proofs.faults.step_has.Statement.{statement}
 use Rattle.records.proofs.faults.step_has.Tie as tie
 
-from-fields-requires : tie.Need-from-fields-requires
-from-fields-requires c κs = search needs
-
-enum-known-step : tie.Need-enum-known-step
-enum-known-step c = search needs
-
-ports-requires : tie.Need-ports-requires
-ports-requires c κs = search needs
-
-allows-requires : tie.Need-allows-requires
-allows-requires c κs = search needs
-
-enum-told : tie.Need-enum-told
-enum-told c = search needs
-
 returns : tie.Need-returns
 returns c =
-    c .allows .ensures
-    ∙ ap (λ (a : Arity). allows a (c .before .before .before .before .before .before .args .t .ports .count)) (c .before .ports .ensures)
-    ∙ sym (ap (λ (f : FoundStep). stepHas f (c .before .before .before .before .before .before .args .t .ports .count)) (sym (c .before .before .before .before .before .from-fields .ensures) ∙ c .before .before .before .step .given .1))
+    let t = c .before .before .args .t in
+    step-past (t .tag) (t .a) (t .b) (t .ports .count) (search needs)
+
+cast-k : tie.Need-cast-k
+cast-k c = search needs
+
+mul-result : tie.Need-mul-result
+mul-result c = search needs
+
+array-read-result : tie.Need-array-read-result
+array-read-result c = search needs
+
+mul-result-2 : tie.Need-mul-result-2
+mul-result-2 c = search needs
+
+array-read-result-2 : tie.Need-array-read-result-2
+array-read-result-2 c = search needs
 
 returns-2 : tie.Need-returns-2
-returns-2 c = sym (ap (λ (f : FoundStep). stepHas f (c .before .before .before .args .t .ports .count)) (sym (c .before .before .from-fields .ensures) ∙ c .enum-told .given .1))
+returns-2 c =
+    let t = c .before .before .before .before .before .args .t in
+    step-ranged (t .a) (t .b) (t .ports .count) (search needs) (t .tag) (search needs)
 
 pub step-has-spec : {M : Type 1} → statement M
 step-has-spec =
     tie.close
     (tie.spec
-    from-fields-requires
-    enum-known-step
-    ports-requires
-    allows-requires
-    enum-told
     returns
+    cast-k
+    mul-result
+    array-read-result
+    mul-result-2
+    array-read-result-2
     returns-2)

@@ -1,85 +1,86 @@
-use mathlib.Core.Path.{_≡_, _∙_, sym}
-use native.Mathlib.Omega.{arith}
-use borrow.Author.Needs.{needs}
+use mathlib.Core.Path.{_∙_, sym, ap}
+use Rattle.records.specs.declared.layout.Section.{Section}
 use Rattle.records.specs.Judge.{walkSection}
-use Rattle.records.specs.Layout.{sizeOf}
-use Rattle.records.proofs.Walks.{Walking, walking-start, walking-room, walking-fault, walking-next, walking-end}
+use borrow.Author.Needs.{needs}
 use Rattle.records.proofs.walk.walk_section.Statement.{statement}
 use Rattle.records.proofs.walk.walk_section.Tie as tie
 
-abbrev Inv-loop : tie.InvT-loop
-Inv-loop s c at x size left₀ p₀ r₀ left p r = (size ≡ sizeOf x) × Walking s c x (walkSection s c x r₀) left p r
-
-abbrev μ-loop : tie.MeasureT-loop
-μ-loop s c at x size left₀ p₀ r₀ left p r = left
-
-size-requires : tie.Need-size-requires Inv-loop μ-loop
-size-requires c κs = search needs
-
-count-requires : tie.Need-count-requires Inv-loop μ-loop
-count-requires c κs = search needs
-
-start-requires : tie.Need-start-requires Inv-loop μ-loop
-start-requires c κs = search needs
-
-loop-holds : tie.Need-loop-holds Inv-loop μ-loop
-loop-holds c =
-    let start = c .before .before .before .before in
-    (c .before .before .size .ensures, walking-start _ _ _ _ (start .pre .1) (c .before .count .ensures) (c .start .ensures))
-
-judge-requires : tie.Need-judge-requires Inv-loop μ-loop
-judge-requires c κs =
-    let start = c .before .before .before .before .before .before in
-    (start .pre .0, (start .pre .1, walking-room (c .before .loop .inv .1) (c .loop-test .taken)))
-
-enum-told : tie.Need-enum-told Inv-loop μ-loop
+enum-told : tie.Need-enum-told
 enum-told c = search needs
 
-cast-t13 : tie.Need-cast-t13 Inv-loop μ-loop
-cast-t13 c =
-    let z = c .before .before .before .before .before .before .before .before .before .pre .1 in
-    omega (arith, z, walking-room (c .before .before .before .before .loop .inv .1) (c .before .before .before .loop-test .taken))
+walk-layers-requires : tie.Need-walk-layers-requires
+walk-layers-requires c κs = search needs
 
-returns : tie.Need-returns Inv-loop μ-loop
-returns c = walking-fault (c .before .before .before .before .loop .inv .1) (c .before .before .before .loop-test .taken) (sym (c .before .before .judge .ensures) ∙ c .enum-told .given .1)
+enum-told-2 : tie.Need-enum-told-2
+enum-told-2 c = search needs
 
-enum-known-next : tie.Need-enum-known-next Inv-loop μ-loop
-enum-known-next c = search needs
+walk-interfaces-requires : tie.Need-walk-interfaces-requires
+walk-interfaces-requires c κs = search needs
 
-add-p : tie.Need-add-p Inv-loop μ-loop
-add-p c = omega (arith, c .before .before .before .before .before .loop .inv .0, walking-room (c .before .before .before .before .before .loop .inv .1) (c .before .before .before .before .loop-test .taken))
+enum-told-3 : tie.Need-enum-told-3
+enum-told-3 c = search needs
 
-sub-left : tie.Need-sub-left Inv-loop μ-loop
-sub-left c = search needs
+walk-stages-requires : tie.Need-walk-stages-requires
+walk-stages-requires c κs = search needs
 
-loop-less : tie.Need-loop-less Inv-loop μ-loop
-loop-less c = search needs
+enum-told-4 : tie.Need-enum-told-4
+enum-told-4 c = search needs
 
-loop-again : tie.Need-loop-again Inv-loop μ-loop
-loop-again c =
-    let loop = c .before .before .before .before .before .loop in
-    (loop .inv .0, walking-next (loop .inv .0) (loop .inv .1) (c .before .before .before .before .loop-test .taken) (sym (c .before .before .before .judge .ensures) ∙ c .before .next .given .1))
+walk-locals-requires : tie.Need-walk-locals-requires
+walk-locals-requires c κs = search needs
 
-returns-2 : tie.Need-returns-2 Inv-loop μ-loop
-returns-2 c = walking-end (c .before .loop .inv .1) (c .loop-test .left)
+enum-told-5 : tie.Need-enum-told-5
+enum-told-5 c = search needs
+
+pass-types-requires : tie.Need-pass-types-requires
+pass-types-requires c κs = search needs
+
+enum-told-6 : tie.Need-enum-told-6
+enum-told-6 c = search needs
+
+walk-steps-requires : tie.Need-walk-steps-requires
+walk-steps-requires c κs = search needs
+
+enum-told-7 : tie.Need-enum-told-7
+enum-told-7 c = search needs
+
+walk-ports-requires : tie.Need-walk-ports-requires
+walk-ports-requires c κs = search needs
+
+returns : tie.Need-returns
+returns c =
+    let start = c .before .before .before .before in
+    c .walk-layers .ensures ∙ sym (ap (λ (x : Section). walkSection (start .args .s .now) (start .args .c) x (start .args .from)) (c .before .enum-told .given .1))
+
+returns-2 : tie.Need-returns-2
+returns-2 c =
+    let start = c .before .before .before .before in
+    c .walk-interfaces .ensures ∙ sym (ap (λ (x : Section). walkSection (start .args .s .now) (start .args .c) x (start .args .from)) (c .before .enum-told2 .given .1))
+
+returns-3 : tie.Need-returns-3
+returns-3 c =
+    let start = c .before .before .before .before in
+    c .walk-stages .ensures ∙ sym (ap (λ (x : Section). walkSection (start .args .s .now) (start .args .c) x (start .args .from)) (c .before .enum-told3 .given .1))
+
+returns-4 : tie.Need-returns-4
+returns-4 c =
+    let start = c .before .before .before .before in
+    c .walk-locals .ensures ∙ sym (ap (λ (x : Section). walkSection (start .args .s .now) (start .args .c) x (start .args .from)) (c .before .enum-told4 .given .1))
+
+returns-5 : tie.Need-returns-5
+returns-5 c =
+    let start = c .before .before .before .before in
+    c .pass-types .ensures ∙ sym (ap (λ (x : Section). walkSection (start .args .s .now) (start .args .c) x (start .args .from)) (c .before .enum-told5 .given .1))
+
+returns-6 : tie.Need-returns-6
+returns-6 c =
+    let start = c .before .before .before .before in
+    c .walk-steps .ensures ∙ sym (ap (λ (x : Section). walkSection (start .args .s .now) (start .args .c) x (start .args .from)) (c .before .enum-told6 .given .1))
+
+returns-7 : tie.Need-returns-7
+returns-7 c =
+    let start = c .before .before .before .before in
+    c .walk-ports .ensures ∙ sym (ap (λ (x : Section). walkSection (start .args .s .now) (start .args .c) x (start .args .from)) (c .before .enum-told7 .given .1))
 
 pub walk-section-spec : {M : Type 1} → statement M
-walk-section-spec =
-    tie.close
-    (tie.spec
-    Inv-loop
-    μ-loop
-    size-requires
-    count-requires
-    start-requires
-    loop-holds
-    judge-requires
-    enum-told
-    cast-t13
-    returns
-    enum-known-next
-    add-p
-    sub-left
-    loop-less
-    loop-again
-    returns-2)
+walk-section-spec = tie.close (tie.spec enum-told walk-layers-requires enum-told-2 walk-interfaces-requires enum-told-3 walk-stages-requires enum-told-4 walk-locals-requires enum-told-5 pass-types-requires enum-told-6 walk-steps-requires enum-told-7 walk-ports-requires returns returns-2 returns-3 returns-4 returns-5 returns-6 returns-7)

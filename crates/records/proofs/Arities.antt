@@ -1,0 +1,98 @@
+-- The fewest and the most ports of a step by its tag are what its own arity allows.
+use mathlib.Core.Path.{_≡_, _∙_, refl, sym, ap, ap₂, subst}
+use mathlib.Core.Bool.{Bool, true, false, cond, not, _&&_, _||_, and-true}
+use mathlib.Core.List.{List, [], _∷_}
+use Prim.Native.Nat.{ℕ, zero, suc, _≤_, _<_}
+use native.Mathlib.Nat.{not-suc-le-zero}
+use native.Mathlib.Omega.{arith}
+use lib.Dec.{eqb, leb, ltb}
+use lib.ListN.{getD, List·getD-eq-default}
+use borrow.Author.Tests.{eqb-true, eqb-false, ltb-true, ltb-false, le-leb, lt-leb}
+use Rattle.vir.specs.declared.step.Onward.the-variants.{To, Nowhere}
+use Rattle.vir.specs.declared.step.Step.the-variants.{Diverge}
+use Rattle.vir.specs.declared.step.FoundStep.{FoundStep}
+use Rattle.vir.specs.declared.step.FoundStep.the-variants.{Step as Found, Nothing}
+use Rattle.vir.specs.Ids.{none, layerOf}
+use Rattle.vir.specs.Step.{steps, stepOf}
+use Rattle.records.specs.Faults.{stepHas}
+
+abbrev pub least : List ℕ
+least = 0 ∷ 1 ∷ 1 ∷ 1 ∷ 1 ∷ 2 ∷ 0 ∷ 0 ∷ 2 ∷ 1 ∷ 1 ∷ 1 ∷ 2 ∷ 2 ∷ 2 ∷ 3 ∷ 1 ∷ 1 ∷ 1 ∷ 2 ∷ 3 ∷ []
+
+abbrev pub most : List ℕ
+most = 0 ∷ 1 ∷ 1 ∷ 1 ∷ 1 ∷ 2 ∷ 1 ∷ 1 ∷ 2 ∷ 65535 ∷ 1 ∷ 65535 ∷ 2 ∷ 2 ∷ 2 ∷ 3 ∷ 65535 ∷ 65535 ∷ 65535 ∷ 2 ∷ 3 ∷ []
+
+-- what the code asks: a Diverge without an interface has none
+abbrev pub ranged : ℕ → ℕ → ℕ → Bool
+ranged tag b n = (not (eqb tag 7) || not (eqb b none) || eqb n 0) && leb (getD least tag 0) n && leb n (getD most tag 0)
+
+-- what holds at each of the first m numbers
+abbrev Each : (ℕ → Type 0) → ℕ → Type 0
+Each P zero = Unit
+Each P (suc m) = Each P m × P m
+
+each-at : (P : ℕ → Type 0) (m : ℕ) → Each P m → (k : ℕ) → k < m → P k
+each-at P zero e k h = absurd (not-suc-le-zero h)
+each-at P (suc m) e k h = go (eqb k m) refl (λ (l : k < m). each-at P m (e .0) k l)
+  where
+    go : (b : Bool) → eqb k m ≡ b → (k < m → P k) → P k
+    go true q r = subst P (sym (eqb-true k m q)) (e .1)
+    go false q r = let apart : k ≡ m → ⊥ = eqb-false k m q in r (omega arith)
+
+exactly : (m n : ℕ) → eqb n m ≡ (leb m n && leb n m)
+exactly m n = go (eqb n m) refl
+  where
+    go : (b : Bool) → eqb n m ≡ b → eqb n m ≡ (leb m n && leb n m)
+    go true e =
+        let same : n ≡ m = eqb-true n m e in
+        e ∙ sym (ap₂ _&&_ (le-leb m n (omega arith)) (le-leb n m (omega arith)))
+    go false e = e ∙ sym (apart (ltb n m) refl)
+      where
+        other : n ≡ m → ⊥
+        other = eqb-false n m e
+
+        apart : (b : Bool) → ltb n m ≡ b → (leb m n && leb n m) ≡ false
+        apart true l = ap (λ (x : Bool). x && leb n m) (lt-leb m n (ltb-true n m l))
+        apart false l =
+            let far : m ≤ n = ltb-false n m l in
+            let no : n ≡ m → ⊥ = other in
+            ap₂ _&&_ (le-leb m n far) (lt-leb n m (omega arith))
+
+module _ (a b n : ℕ) (small : n ≤ 65535) where
+  at-least : (m : ℕ) → leb m n ≡ (leb m n && leb n 65535)
+  at-least m = sym (ap (λ (x : Bool). leb m n && x) (le-leb n 65535 small) ∙ and-true (leb m n))
+
+  at-most : (m : ℕ) → leb n m ≡ (leb 0 n && leb n m)
+  at-most m = sym (ap (λ (x : Bool). x && leb n m) (le-leb 0 n (omega arith)))
+
+  abbrev Right : ℕ → Type 0
+  Right k = stepHas (stepOf k a b) n ≡ ranged k b n
+
+  none-at-all : eqb n 0 ≡ (eqb n 0 && leb 0 n && leb n 1)
+  none-at-all = go (eqb n 0) refl
+    where
+      go : (x : Bool) → eqb n 0 ≡ x → eqb n 0 ≡ (eqb n 0 && leb 0 n && leb n 1)
+      go true e =
+          let zeroth : n ≡ 0 = eqb-true n 0 e in
+          e ∙ sym (ap₂ _&&_ (ap₂ _&&_ e (le-leb 0 n (omega arith))) (le-leb n 1 (omega arith)))
+      go false e = e ∙ sym (ap (λ (x : Bool). x && leb 0 n && leb n 1) e)
+
+  diverge : Right 7
+  unfolding stepOf
+  diverge = go (eqb b none)
+    where
+      go : (x : Bool) → stepHas (Found (Diverge (layerOf a) (cond x Nowhere (To (record { 0 = b }))))) n ≡ ((false || not x || eqb n 0) && leb 0 n && leb n 1)
+      go true = none-at-all
+      go false = at-most 1
+
+  right : Each Right 21
+  unfolding stepOf
+  right =
+      (((((((((((((((((((((tt, exactly 0 n), exactly 1 n), exactly 1 n), exactly 1 n), exactly 1 n), exactly 2 n), at-most 1), diverge), exactly 2 n), at-least 1), exactly 1 n), at-least 1), exactly 2 n), exactly 2 n), exactly 2 n), exactly 3 n), at-least 1), at-least 1), at-least 1), exactly 2 n), exactly 3 n)
+
+  pub step-ranged : (tag : ℕ) → tag < 21 → ranged tag b n ≡ stepHas (stepOf tag a b) n
+  step-ranged tag h = sym (each-at Right 21 right tag h)
+
+pub step-past : (tag a b n : ℕ) → 21 ≤ tag → false ≡ stepHas (stepOf tag a b) n
+unfolding stepOf
+step-past tag a b n h = sym (ap (λ (f : FoundStep). stepHas f n) (List·getD-eq-default (steps a b) Nothing h))

@@ -1,0 +1,63 @@
+use mathlib.Core.Path.{_≡_, _∙_, refl, sym, ap}
+use native.Mathlib.Omega.{arith}
+use borrow.Author.Needs.{needs}
+use Rattle.records.specs.declared.layout.Section.the-variants.{Layers}
+use Rattle.records.specs.Judge.{judge, judgeLayer, walkSection}
+use Rattle.records.proofs.Walks.{Walking, walking-start, walking-room, walking-fault, walking-on, walking-end}
+use Rattle.records.proofs.walk.walk_layers.Statement.{statement}
+use Rattle.records.proofs.walk.walk_layers.Tie as tie
+
+abbrev Inv-loop : tie.InvT-loop
+Inv-loop s c at left₀ p₀ r₀ left p r = Walking s c Layers (walkSection s c Layers r₀) left p r
+
+abbrev μ-loop : tie.MeasureT-loop
+μ-loop s c at left₀ p₀ r₀ left p r = left
+
+loop-holds : tie.Need-loop-holds Inv-loop μ-loop
+loop-holds c = walking-start _ _ _ _ (c .before .pre .1) refl refl
+
+read-requires : tie.Need-read-requires Inv-loop μ-loop
+read-requires c κs = walking-room (c .before .loop .inv) (c .loop-test .taken)
+
+judge-layer-requires : tie.Need-judge-layer-requires Inv-loop μ-loop
+judge-layer-requires c κs = (c .before .before .before .before .pre .0, c .before .before .before .before .pre .1)
+
+module _ (c : tie.After-judge-layer Inv-loop μ-loop) where
+  abbrev at-loop : tie.At-loop Inv-loop μ-loop
+  at-loop = c .before .before .before
+
+  abbrev start : tie.Start Inv-loop μ-loop
+  start = at-loop .before .before
+
+  judged : judge Layers (start .args .s .now) (start .args .c) (at-loop .loop .p) (at-loop .loop .r) ≡ c .judge-layer .result
+  judged = sym (c .judge-layer .ensures ∙ ap (judgeLayer (start .args .s .now) (start .args .c) (at-loop .loop .r)) (c .before .read .ensures))
+
+enum-told : tie.Need-enum-told Inv-loop μ-loop
+enum-told c = search needs
+
+cast-t12 : tie.Need-cast-t12 Inv-loop μ-loop
+cast-t12 c = omega (arith, c .before .before .before .before .before .before .before .pre .1, walking-room (c .before .before .before .before .before .loop .inv) (c .before .before .before .before .loop-test .taken))
+
+returns : tie.Need-returns Inv-loop μ-loop
+returns c = walking-fault (c .before .before .before .before .before .loop .inv) (c .before .before .before .before .loop-test .taken) (judged (c .before .before) ∙ c .enum-told .given .1)
+
+enum-known-next : tie.Need-enum-known-next Inv-loop μ-loop
+enum-known-next c = search needs
+
+add-p : tie.Need-add-p Inv-loop μ-loop
+add-p c = omega (arith, walking-room (c .before .before .before .before .before .before .loop .inv) (c .before .before .before .before .before .loop-test .taken))
+
+sub-left : tie.Need-sub-left Inv-loop μ-loop
+sub-left c = search needs
+
+loop-less : tie.Need-loop-less Inv-loop μ-loop
+loop-less c = search needs
+
+loop-again : tie.Need-loop-again Inv-loop μ-loop
+loop-again c = walking-on (c .before .before .before .before .before .before .loop .inv) (c .before .before .before .before .before .loop-test .taken) (judged (c .before .before .before) ∙ c .before .next .given .1)
+
+returns-2 : tie.Need-returns-2 Inv-loop μ-loop
+returns-2 c = walking-end (c .before .loop .inv) (c .loop-test .left)
+
+pub walk-layers-spec : {M : Type 1} → statement M
+walk-layers-spec = tie.close (tie.spec Inv-loop μ-loop loop-holds read-requires judge-layer-requires enum-told cast-t12 returns enum-known-next add-p sub-left loop-less loop-again returns-2)
