@@ -1,7 +1,7 @@
 // The layer rules of document 01 that look at steps: Transfers enter layers from their parents, and Diverges name layers around them.
 ghost use mathlib.Core.Path.{_≡_};
 ghost use mathlib.Core.Bool.{true, _&&_, _||_};
-ghost use Prim.Native.Nat.{_+_, _≤_, _<_};
+ghost use Prim.Native.Nat.{_+_, _*_, _≤_, _<_};
 ghost use lib.Dec.{eqb};
 ghost use lib.ListN.{length, getD, set};
 ghost use Rattle.vir.specs.Ids.{none};
@@ -9,7 +9,7 @@ ghost use Rattle.image.specs.Accepted.{Accepted};
 ghost use Rattle.image.specs.Entering.{actionAt, actionsOf, entersOf, divergesOf, enterable, liesIn};
 ghost use Rattle.records.specs.Every.{every};
 ghost use Rattle.image.specs.Kind.{all, concat};
-ghost use Rattle.records.specs.Layout.{Sized};
+ghost use Rattle.records.specs.Layout.{stepsAt, stepSize, Sized};
 ghost use Rattle.image.specs.LayerRules.{parentsBelow, listedOnce, listedByOwnLayer, interfacesLie, entries, targets, enteredFromParent, divergesOut};
 ghost use Rattle.image.specs.Tally.{bump, tally};
 ghost use Rattle.image.specs.View.{viewOf};
@@ -131,17 +131,17 @@ struct Around {
     known: u16,
 }
 
-// The step k, which stands in the layer l, names l or a layer around it if it is a Diverge. Jumps to the same layer climb once.
-fn diverge_step(s: &[u8], c: Counts, l: u16, k: usize, ok: bool, known: u16) -> Around
+// The step k, at p, which stands in the layer l, names l or a layer around it if it is a Diverge. Jumps to the same layer climb once.
+fn diverge_step(s: &[u8], c: Counts, l: u16, k: usize, p: usize, ok: bool, known: u16) -> Around
     requires { ⌜ Accepted (now s) c ⌝ }
     requires { ⌜ parentsBelow (viewOf (now s) c) ≡ true ⌝ }
     requires { ⌜ l < c .layers ⌝ }
     requires { ⌜ k < c .steps ⌝ }
+    requires { ⌜ p ≡ stepsAt c + stepSize * k ⌝ }
     requires { ⌜ liesIn (viewOf (now s) c) l known ≡ true ⌝ }
     ensures { λ r. ⌜ (r .ok ≡ (ok && all (liesIn (viewOf (now (s .entry)) c) l) (divergesOf (actionAt (now (s .entry)) c k))))
         × (liesIn (viewOf (now (s .entry)) c) l (r .known) ≡ true) ⌝ }
 {
-    let p = c.steps_at() + STEP * k;
     if s[p] != 7 {
         return Around { ok, known };
     }
@@ -163,13 +163,15 @@ fn diverge_run(s: &[u8], c: Counts, l: u16, run: Run, before: bool) -> bool
     ensures { λ r. ⌜ r ≡ (before && all (liesIn (viewOf (now (s .entry)) c) l) (concat divergesOf (actionsOf (now (s .entry)) c run))) ⌝ }
 {
     let mut k = run.first as usize;
+    let mut p = c.steps_at() + STEP * k;
     let mut left = run.count;
     let mut ok = before;
     let mut known = l;
     while left != 0 {
-        let next = diverge_step(s, c, l, k, ok, known);
+        let next = diverge_step(s, c, l, k, p, ok, known);
         ok = next.ok;
         known = next.known;
+        p += STEP;
         k += 1;
         left -= 1;
     }

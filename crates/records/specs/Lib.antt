@@ -1,3 +1,4 @@
+pub mod Arities
 pub mod Bytes
 pub mod Every
 pub mod Faults

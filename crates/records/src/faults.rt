@@ -6,6 +6,7 @@ ghost use lib.ListN.{length};
 ghost use Rattle.vir.specs.Header.{headerOf};
 ghost use Rattle.vir.specs.Interface.{kindOf};
 ghost use Rattle.vir.specs.Step.{stepOf};
+ghost use Rattle.records.specs.Arities.{fewestPorts, mostPorts};
 ghost use Rattle.records.specs.Bytes.{u16At};
 ghost use Rattle.records.specs.Every.{every};
 ghost use Rattle.records.specs.Layout.{refsAt, lengthOf};
@@ -106,65 +107,73 @@ fn header_has(tag: u8, count: u16) -> bool
     }
 }
 
-// The fewest and the most ports of each tag, as `Step::ports` has them: to look them up is quicker than to make the step.
-const LEAST: [u16; 21] = [
-    0,
-    1,
-    1,
-    1,
-    1,
-    2,
-    0,
-    0,
-    2,
-    1,
-    1,
-    1,
-    2,
-    2,
-    2,
-    3,
-    1,
-    1,
-    1,
-    2,
-    3,
-];
+// The fewest ports of a tag and the most, as `Step::ports` has them: to look them up is quicker than to make the step.
+fn fewest_ports(tag: u8) -> u16
+    ensures { λ r. ⌜ r ≡ fewestPorts tag ⌝ }
+{
+    match tag {
+        0 => 0,
+        1 => 1,
+        2 => 1,
+        3 => 1,
+        4 => 1,
+        5 => 2,
+        6 => 0,
+        7 => 0,
+        8 => 2,
+        9 => 1,
+        10 => 1,
+        11 => 1,
+        12 => 2,
+        13 => 2,
+        14 => 2,
+        15 => 3,
+        16 => 1,
+        17 => 1,
+        18 => 1,
+        19 => 2,
+        20 => 3,
+        _ => 1,
+    }
+}
 
-const MOST: [u16; 21] = [
-    0,
-    1,
-    1,
-    1,
-    1,
-    2,
-    1,
-    1,
-    2,
-    65535,
-    1,
-    65535,
-    2,
-    2,
-    2,
-    3,
-    65535,
-    65535,
-    65535,
-    2,
-    3,
-];
+fn most_ports(tag: u8) -> u16
+    ensures { λ r. ⌜ r ≡ mostPorts tag ⌝ }
+{
+    match tag {
+        0 => 0,
+        1 => 1,
+        2 => 1,
+        3 => 1,
+        4 => 1,
+        5 => 2,
+        6 => 1,
+        7 => 1,
+        8 => 2,
+        9 => 65535,
+        10 => 1,
+        11 => 65535,
+        12 => 2,
+        13 => 2,
+        14 => 2,
+        15 => 3,
+        16 => 65535,
+        17 => 65535,
+        18 => 65535,
+        19 => 2,
+        20 => 3,
+        _ => 0,
+    }
+}
 
 // A Diverge without an interface has none.
 fn step_has(t: StepRecord) -> bool
     ensures { λ r. ⌜ r ≡ stepHas (stepOf (t .tag) (t .a) (t .b)) (t .ports .count) ⌝ }
 {
-    if 21 <= t.tag {
-        return false;
-    }
-    let k = t.tag as usize;
     let n = t.ports.count;
-    ((t.tag != 7) | (t.b != 65535) | (n == 0)) & (LEAST[k] <= n) & (n <= MOST[k])
+    ((t.tag != 7) | (t.b != 65535) | (n == 0))
+        & (fewest_ports(t.tag) <= n)
+        & (n <= most_ports(t.tag))
 }
 
 fn layer_fields(c: Counts, r: Running, l: LayerRecord) -> bool

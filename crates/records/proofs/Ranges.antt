@@ -1,7 +1,6 @@
 -- The fewest and the most ports of a step by its tag are what its own arity allows.
 use mathlib.Core.Path.{_≡_, _∙_, refl, sym, ap, ap₂, subst}
-use mathlib.Core.Bool.{Bool, true, false, cond, not, _&&_, _||_, and-true}
-use mathlib.Core.List.{List, [], _∷_}
+use mathlib.Core.Bool.{Bool, true, false, cond, not, _&&_, _||_, and-true, and-false}
 use Prim.Native.Nat.{ℕ, zero, suc, _≤_, _<_}
 use native.Mathlib.Nat.{not-suc-le-zero}
 use native.Mathlib.Omega.{arith}
@@ -14,17 +13,12 @@ use Rattle.vir.specs.declared.step.FoundStep.{FoundStep}
 use Rattle.vir.specs.declared.step.FoundStep.the-variants.{Step as Found, Nothing}
 use Rattle.vir.specs.Ids.{none, layerOf}
 use Rattle.vir.specs.Step.{steps, stepOf}
+use Rattle.records.specs.Arities.{fewest, most, fewestPorts, mostPorts}
 use Rattle.records.specs.Faults.{stepHas}
-
-abbrev pub least : List ℕ
-least = 0 ∷ 1 ∷ 1 ∷ 1 ∷ 1 ∷ 2 ∷ 0 ∷ 0 ∷ 2 ∷ 1 ∷ 1 ∷ 1 ∷ 2 ∷ 2 ∷ 2 ∷ 3 ∷ 1 ∷ 1 ∷ 1 ∷ 2 ∷ 3 ∷ []
-
-abbrev pub most : List ℕ
-most = 0 ∷ 1 ∷ 1 ∷ 1 ∷ 1 ∷ 2 ∷ 1 ∷ 1 ∷ 2 ∷ 65535 ∷ 1 ∷ 65535 ∷ 2 ∷ 2 ∷ 2 ∷ 3 ∷ 65535 ∷ 65535 ∷ 65535 ∷ 2 ∷ 3 ∷ []
 
 -- what the code asks: a Diverge without an interface has none
 abbrev pub ranged : ℕ → ℕ → ℕ → Bool
-ranged tag b n = (not (eqb tag 7) || not (eqb b none) || eqb n 0) && leb (getD least tag 0) n && leb n (getD most tag 0)
+ranged tag b n = (not (eqb tag 7) || not (eqb b none) || eqb n 0) && leb (fewestPorts tag) n && leb n (mostPorts tag)
 
 -- what holds at each of the first m numbers
 abbrev Each : (ℕ → Type 0) → ℕ → Type 0
@@ -90,9 +84,24 @@ module _ (a b n : ℕ) (small : n ≤ 65535) where
   right =
       (((((((((((((((((((((tt, exactly 0 n), exactly 1 n), exactly 1 n), exactly 1 n), exactly 1 n), exactly 2 n), at-most 1), diverge), exactly 2 n), at-least 1), exactly 1 n), at-least 1), exactly 2 n), exactly 2 n), exactly 2 n), exactly 3 n), at-least 1), at-least 1), at-least 1), exactly 2 n), exactly 3 n)
 
-  pub step-ranged : (tag : ℕ) → tag < 21 → ranged tag b n ≡ stepHas (stepOf tag a b) n
-  step-ranged tag h = sym (each-at Right 21 right tag h)
+  right-below : (tag : ℕ) → tag < 21 → ranged tag b n ≡ stepHas (stepOf tag a b) n
+  right-below tag h = sym (each-at Right 21 right tag h)
 
-pub step-past : (tag a b n : ℕ) → 21 ≤ tag → false ≡ stepHas (stepOf tag a b) n
+nothing-between : (x : Bool) (n : ℕ) → (x && leb 1 n && leb n 0) ≡ false
+nothing-between x zero = ap (λ (y : Bool). x && y && leb 0 0) (lt-leb 1 0 (omega arith)) ∙ ap (λ (y : Bool). y && leb 0 0) (and-false x)
+nothing-between x (suc n) = ap (λ (y : Bool). x && leb 1 (suc n) && y) (lt-leb (suc n) 0 (omega arith)) ∙ and-false (x && leb 1 (suc n))
+
+right-past : (tag a b n : ℕ) → 21 ≤ tag → ranged tag b n ≡ stepHas (stepOf tag a b) n
 unfolding stepOf
-step-past tag a b n h = sym (ap (λ (f : FoundStep). stepHas f n) (List·getD-eq-default (steps a b) Nothing h))
+right-past tag a b n h =
+    let x : Bool = not (eqb tag 7) || not (eqb b none) || eqb n 0 in
+    ap₂ (λ (lo hi : ℕ). x && leb lo n && leb n hi) (List·getD-eq-default fewest 1 h) (List·getD-eq-default most 0 h)
+    ∙ nothing-between x n
+    ∙ sym (ap (λ (f : FoundStep). stepHas f n) (List·getD-eq-default (steps a b) Nothing h))
+
+pub step-ranged : (tag a b n : ℕ) → n ≤ 65535 → ranged tag b n ≡ stepHas (stepOf tag a b) n
+step-ranged tag a b n small = go (ltb tag 21) refl
+  where
+    go : (x : Bool) → ltb tag 21 ≡ x → ranged tag b n ≡ stepHas (stepOf tag a b) n
+    go true e = right-below a b n small tag (ltb-true tag 21 e)
+    go false e = right-past tag a b n (ltb-false tag 21 e)
