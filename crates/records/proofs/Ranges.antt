@@ -13,8 +13,12 @@ use Rattle.vir.specs.declared.step.FoundStep.{FoundStep}
 use Rattle.vir.specs.declared.step.FoundStep.the-variants.{Step as Found, Nothing}
 use Rattle.vir.specs.Ids.{none, layerOf}
 use Rattle.vir.specs.Step.{steps, stepOf}
+use Rattle.records.specs.declared.layout.Counts.{Counts}
+use Rattle.records.specs.declared.record.StepRecord.{StepRecord}
+use Rattle.records.specs.declared.running.Running.{Running}
 use Rattle.records.specs.Arities.{fewest, most, fewestPorts, mostPorts}
-use Rattle.records.specs.Faults.{stepHas}
+use Rattle.records.specs.Faults.{laid, stepHas, stepNamed, stepGood}
+use Rattle.records.proofs.Fits.{named-invoke}
 
 -- what the code asks: a Diverge without an interface has none
 abbrev pub ranged : ℕ → ℕ → ℕ → Bool
@@ -105,3 +109,27 @@ step-ranged tag a b n small = go (ltb tag 21) refl
     go : (x : Bool) → ltb tag 21 ≡ x → ranged tag b n ≡ stepHas (stepOf tag a b) n
     go true e = right-below a b n small tag (ltb-true tag 21 e)
     go false e = right-past tag a b n (ltb-false tag 21 e)
+
+module _ (c : Counts) (r : Running) (t : StepRecord) where
+  abbrev has : Bool
+  has = stepHas (stepOf (t .tag) (t .a) (t .b)) (t .ports .count)
+
+  abbrev lies : Bool
+  lies = laid (r .ports) (c .ports) (t .ports)
+
+  -- an invocation has as many ports as its fewest
+  invoked : t .tag ≤ 5 → eqb (t .ports .count) (fewestPorts (t .tag)) ≡ has
+  unfolding stepOf
+  invoked h = each-at (λ k. eqb (t .ports .count) (fewestPorts k) ≡ stepHas (stepOf k (t .a) (t .b)) (t .ports .count)) 6 all (t .tag) (omega arith)
+    where
+      all : Each (λ k. eqb (t .ports .count) (fewestPorts k) ≡ stepHas (stepOf k (t .a) (t .b)) (t .ports .count)) 6
+      all = ((((((tt, refl), refl), refl), refl), refl), refl)
+
+  pub step-unlaid : lies ≡ false → false ≡ stepGood c r t
+  step-unlaid h = sym (ap (λ (x : Bool). has && stepNamed c t && x) h ∙ and-false (has && stepNamed c t))
+
+  pub step-laid : {x y : Bool} → lies ≡ true → x ≡ has → y ≡ stepNamed c t → (x && y) ≡ stepGood c r t
+  step-laid h e k = ap₂ _&&_ e k ∙ sym (ap (λ (x : Bool). has && stepNamed c t && x) h ∙ and-true (has && stepNamed c t))
+
+  pub step-invoked : {m : ℕ} → lies ≡ true → t .tag ≤ 5 → m ≡ fewestPorts (t .tag) → (eqb (t .ports .count) m && ltb (t .b) (c .locals)) ≡ stepGood c r t
+  step-invoked h k e = step-laid h (ap (eqb (t .ports .count)) e ∙ invoked k) (named-invoke c t k)

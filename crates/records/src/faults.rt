@@ -311,9 +311,16 @@ fn step_named(c: Counts, t: StepRecord) -> bool
     t.b == 0
 }
 
+// The invocations are the most of the steps, and have as many ports as their fewest.
 pub fn step_good(c: Counts, r: Running, t: StepRecord) -> bool
     ensures { λ b. ⌜ b ≡ stepGood c r t ⌝ }
 {
     let ports = t.ports;
-    step_has(t) & step_named(c, t) & laid(r.ports, c.ports, ports)
+    if !laid(r.ports, c.ports, ports) {
+        return false;
+    }
+    if t.tag <= 5 {
+        return (t.ports.count == fewest_ports(t.tag)) & (t.b < c.locals);
+    }
+    step_has(t) & step_named(c, t)
 }
