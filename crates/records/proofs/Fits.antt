@@ -13,10 +13,11 @@ use Rattle.records.specs.declared.record.LayerRecord.{LayerRecord}
 use Rattle.records.specs.declared.record.InterfaceRecord.{InterfaceRecord}
 use Rattle.records.specs.declared.record.StageRecord.{StageRecord}
 use Rattle.records.specs.declared.record.StepRecord.{StepRecord}
+use Rattle.records.specs.declared.record.PortRecord.{PortRecord}
 use Rattle.records.specs.declared.running.Running.{Running}
 use Rattle.records.specs.Bytes.{u16At}
 use Rattle.records.specs.Every.{every}
-use Rattle.records.specs.Faults.{orNone, laid, listAt, refsBelow, layerFields, kindLists, closureAt, entriesNamed, interfaceFields, stageNamed, stageLists, stageFields, portsLaid, stepNamed}
+use Rattle.records.specs.Faults.{orNone, laid, listAt, refsBelow, layerFields, kindLists, closureAt, entriesNamed, interfaceFields, stageNamed, stageLists, stageFields, portsLaid, stepNamed, typeNamed, portGood}
 use Rattle.records.proofs.Guards.{left-true, right-true}
 
 pub laid-first : (running total : ℕ) (run : Run) → laid running total run ≡ true → run .first ≡ running
@@ -89,3 +90,14 @@ module _ (c : Counts) (t : StepRecord) where
 
   pub named-other : 5 < t .tag → (t .tag ≡ 6 → ⊥) → (t .tag ≡ 7 → ⊥) → eqb (t .b) 0 ≡ stepNamed c t
   named-other h k l = simp (lt-leb _ _ h, ne-eqb _ _ k, ne-eqb _ _ l)
+
+module _ (c : Counts) (p : PortRecord) where
+  pub port-untyped : typeNamed c (p .ty .0) ≡ false → false ≡ portGood c p
+  port-untyped h = sym (ap (λ (x : Bool). x && leb (p .kind) 7 && (eqb (p .kind) 6 || eqb (p .b) 0)) h)
+
+  -- a wire's b is any
+  pub port-wire : typeNamed c (p .ty .0) ≡ true → p .kind ≡ 6 → true ≡ portGood c p
+  port-wire h k = simp (h, le-leb (p .kind) 7 (omega arith), eq-eqb _ _ k)
+
+  pub port-other : typeNamed c (p .ty .0) ≡ true → (p .kind ≡ 6 → ⊥) → (leb (p .kind) 7 && eqb (p .b) 0) ≡ portGood c p
+  port-other h k = simp (h, ne-eqb _ _ k)

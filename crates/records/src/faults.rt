@@ -86,7 +86,13 @@ pub fn port_good(c: Counts, p: PortRecord) -> bool
     ensures { λ r. ⌜ r ≡ portGood c p ⌝ }
 {
     let ty = p.ty;
-    type_named(c, ty) & (p.kind <= 7) & ((p.kind == 6) | (p.b == 0))
+    if !type_named(c, ty) {
+        return false;
+    }
+    if p.kind == 6 {
+        return true;
+    }
+    (p.kind <= 7) & (p.b == 0)
 }
 
 fn kind_lists(kind: u8, count: u16) -> bool
