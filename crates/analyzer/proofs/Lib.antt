@@ -4,6 +4,7 @@ pub mod Each
 pub mod Networks
 pub mod OfImages
 pub mod Reports
+pub mod Silence
 pub mod Sizes
 pub mod Stages
 pub mod Starred

@@ -1,7 +1,7 @@
 -- The report is put together from what is said of each local.
 use mathlib.Core.Path.{_≡_, _∙_, refl, sym, ap, subst}
-use mathlib.Core.Bool.{Bool, true, false}
-use mathlib.Core.List.{List, [], _∷_, map}
+use mathlib.Core.Bool.{Bool, true, false, not, _&&_, _||_, or-false, or-assoc}
+use mathlib.Core.List.{List, [], _∷_, _++_, map}
 use Prim.Native.Nat.{ℕ, zero, suc, _+_, _<_, _≤_}
 use native.Mathlib.Omega.{arith}
 use lib.ListN.{length, getD, length-map, List·getD-map}
@@ -13,13 +13,15 @@ use Rattle.image.specs.Vir.{Vir}
 use Rattle.image.proofs.Viewing.{length-collect, getD-collect}
 use Rattle.wellformed.specs.WellFormed.{WellFormed}
 use Rattle.wellformed.proofs.Plain.{fitting}
-use Rattle.report.specs.Report.{Wire, noWire, reportBytes}
+use Rattle.report.specs.Report.{Diag, Wire, noWire, bit, reportBytes}
 use Rattle.report.proofs.Lengths.{report-length}
 use Rattle.solve.specs.Least.{total}
-use Rattle.analyzer.specs.Analyze.{Answers, Column, Saying, answersFor, processed, columns, wireIn, saidOf, analyze}
+use Rattle.analyzer.specs.Analyze.{Answers, Column, Saying, InfiniteLoop, answersFor, processed, processLocal, columns, wireIn, saidOf, analyze}
+use Rattle.analyzer.specs.Build.{localOf}
 use Rattle.analyzer.specs.Demand.{networkOf}
-use Rattle.analyzer.specs.Reported.{Reported, answersIn, takesIn, evaluationsIn, locals}
+use Rattle.analyzer.specs.Reported.{Reported, answersIn, takesIn, evaluationsIn, loopsIn, anyLoops, infinite}
 use Rattle.analyzer.specs.Sweep.{incomingOf}
+use Rattle.analyzer.proofs.Silence.{infinite-append, errors-quiet}
 use Rattle.analyzer.proofs.Sweeps.{incoming-sized}
 
 -- from 0 on
@@ -71,8 +73,53 @@ module _ (v : Vir) where
       counts-sum span (suc i) n (saidBy span (columnAt i) s) in
       (more .0 ∙ omega (arith, one .0), more .1 ∙ omega (arith, one .1))
 
+  -- InfiniteLoop is among what was said as often as the flag says
+  abbrev Once : Saying → Type 0
+  Once s = infinite (s .diags) ≡ bit (s .infiniteLoop)
+
+  -- an answer adds one if it is the first that loops
+  answer-once : (span l : ℕ) (a : Answers) (s : Saying) → infinite (a .diags) ≡ 0 → Once s → Once (saidOf span l a s)
+  unfolding infinite
+  answer-once span l a s quiet once =
+      infinite-append (s .diags ++ new (a .loops && not (s .infiniteLoop))) (a .diags)
+      ∙ omega (arith, infinite-append (s .diags) (new (a .loops && not (s .infiniteLoop))), quiet, once, first (a .loops) (s .infiniteLoop))
+    where
+      new : Bool → List Diag
+      new b = elim b [ true ↦ InfiniteLoop span l ∷ [] | false ↦ [] ]
+
+      first : (loops before : Bool) → bit before + infinite (new (loops && not before)) ≡ bit (before || loops)
+      first true true = refl
+      first true false = refl
+      first false true = refl
+      first false false = refl
+
+  local-once : (span i : ℕ) (s : Saying) → Once s
+      → Once (saidBy span (columnAt i) s) × (saidBy span (columnAt i) s .infiniteLoop ≡ (s .infiniteLoop || loopsIn (answersIn v i)))
+  unfolding each answersFor processLocal
+  local-once span i s once = go (processed v (incomingOf v) i)
+    where
+      answers : Bool → List Answers
+      answers b = elim b [ true ↦ answersFor v i ∷ [] | false ↦ [] ]
+
+      go : (b : Bool)
+          → Once (saidBy span (record { local = i; answers = answers b }) s)
+          × (saidBy span (record { local = i; answers = answers b }) s .infiniteLoop ≡ (s .infiniteLoop || loopsIn (answers b)))
+      go true = (answer-once span i (answersFor v i) s (errors-quiet i (localOf v i) (answersFor v i .wires) (incomingOf v) (v .stages)) once, refl)
+      go false = (once, sym (or-false (s .infiniteLoop)))
+
+  all-once : (span i n : ℕ) (s : Saying) → Once s
+      → infinite (each (saidBy span) (collect columnAt i n) s .diags) ≡ bit (s .infiniteLoop || anyLoops v (collect (λ l. l) i n))
+  unfolding each collect anyLoops
+  all-once span i zero s once = once ∙ ap bit (sym (or-false (s .infiniteLoop)))
+  all-once span i (suc n) s once =
+      let one : Once (saidBy span (columnAt i) s) × (saidBy span (columnAt i) s .infiniteLoop ≡ (s .infiniteLoop || loopsIn (answersIn v i))) =
+      local-once span i s once in
+      all-once span (suc i) n (saidBy span (columnAt i) s) (one .0)
+      ∙ ap (λ (b : Bool). bit (b || anyLoops v (collect (λ l. l) (suc i) n))) (one .1)
+      ∙ ap bit (or-assoc (s .infiniteLoop) (loopsIn (answersIn v i)) (anyLoops v (collect (λ l. l) (suc i) n)))
+
   pub reported : (span : ℕ) → Reported span v
-  unfolding analyze answersFor
+  unfolding analyze answersFor infinite
   reported span =
       record {
         wires = λ i l h k.
@@ -81,6 +128,7 @@ module _ (v : Vir) where
             ∙ ap (λ (c : Column). wireIn i (c .answers)) (getD-all columnAt (length (v .locals)) l (record { local = 0; answers = [] }) k);
         takes = counts-sum span 0 (length (v .locals)) silent .0 ∙ omega arith;
         evaluations = counts-sum span 0 (length (v .locals)) silent .1 ∙ omega arith;
+        loops = all-once span 0 (length (v .locals)) silent refl;
       }
     where
       all : List Column

@@ -1,12 +1,13 @@
 -- What of each local stands in the report: that of a processed one is answersFor's, of another nothing.
 use mathlib.Core.Path.{_≡_}
-use mathlib.Core.Bool.{true, false}
+use mathlib.Core.Bool.{Bool, true, false, cond, _||_}
 use mathlib.Core.List.{List, [], _∷_}
-use Prim.Native.Nat.{ℕ, _<_}
+use Prim.Native.Nat.{ℕ, _+_, _<_}
+use lib.Dec.{eqb}
 use lib.ListN.{length, getD}
 use Rattle.image.specs.View.{collect}
 use Rattle.image.specs.Vir.{Vir}
-use Rattle.report.specs.Report.{noWire}
+use Rattle.report.specs.Report.{Diag, noWire, bit}
 use Rattle.solve.specs.Least.{total}
 use Rattle.analyzer.specs.Analyze.{Answers, answersFor, processed, wireIn, analyze}
 use Rattle.analyzer.specs.Sweep.{incomingOf}
@@ -22,6 +23,20 @@ abbrev pub evaluationsIn : List Answers → ℕ
 evaluationsIn [] = 0
 evaluationsIn (a ∷ as') = a .evaluations
 
+abbrev pub loopsIn : List Answers → Bool
+loopsIn [] = false
+loopsIn (a ∷ as') = a .loops
+
+-- whether any of some locals meets Never at an interface that is come to
+unfoldable pub anyLoops : Vir → List ℕ → Bool
+anyLoops v [] = false
+anyLoops v (l ∷ ls) = loopsIn (answersIn v l) || anyLoops v ls
+
+-- how often InfiniteLoop stands among diagnostics
+unfoldable pub infinite : List Diag → ℕ
+infinite [] = 0
+infinite (d ∷ ds) = cond (eqb (d .kind) 1) 1 0 + infinite ds
+
 abbrev pub locals : Vir → List ℕ
 locals v = collect (λ l. l) 0 (length (v .locals))
 
@@ -31,3 +46,5 @@ pub record Reported (span : ℕ) (v : Vir) : Type 0 where
   -- sums over the processed locals
   pub takes : analyze span v .takes ≡ total (λ l. takesIn (answersIn v l)) (locals v)
   pub evaluations : analyze span v .evaluations ≡ total (λ l. evaluationsIn (answersIn v l)) (locals v)
+  -- at most once a call, and exactly if a processed local says so
+  pub loops : infinite (analyze span v .diags) ≡ bit (anyLoops v (locals v))
