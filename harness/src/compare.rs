@@ -65,7 +65,7 @@ pub fn images(n: usize) -> impl Iterator<Item = Vec<u8>> {
 
 /// At most `share` of all, evenly apart; they are counted when the first is asked for. The step is prime, so that it
 /// keeps pace with no field that takes its values in turn.
-fn spread<I: Iterator>(all: impl Fn() -> I, share: usize) -> impl Iterator<Item = I::Item> {
+pub(crate) fn spread<I: Iterator>(all: impl Fn() -> I, share: usize) -> impl Iterator<Item = I::Item> {
     let some = move || {
         let least = all().count().div_ceil(share.max(1)).max(1);
         let prime = |&n: &usize| (2..).take_while(|d| d * d <= n).all(|d| n % d != 0);

@@ -5,6 +5,8 @@ pub mod bridge;
 pub mod check;
 pub mod compare;
 #[cfg(feature = "oracle")]
+pub mod evaluate;
+#[cfg(feature = "oracle")]
 pub mod families;
 pub mod generate;
 pub mod image;

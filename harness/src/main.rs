@@ -25,7 +25,7 @@ struct Command {
     run: fn(&[String], &mut dyn Read) -> Answer,
 }
 
-const COMMANDS: [Command; 11] = [
+const COMMANDS: [Command; 12] = [
     Command {
         name: "report",
         arguments: &[],
@@ -68,6 +68,12 @@ const COMMANDS: [Command; 11] = [
         arguments: &["[N]"],
         help: "for each slip of docs/SLIPS.md the smallest image found, from N seeds, 100 if not said",
         run: live::slips,
+    },
+    Command {
+        name: "evaluate",
+        arguments: &["[N]"],
+        help: "the definitions against Vine's own code on N short images of each family, 12 if not said",
+        run: live::evaluate,
     },
     Command {
         name: "compare",
@@ -194,6 +200,7 @@ fn image(input: &mut dyn Read) -> Result<Image, Stop> {
 mod live {
     use harness::{
         bridge::{self, Normalised},
+        evaluate::{self, cases},
         families::{Counts, walk},
         picture,
         slips::{SLIPS, slipped, smallest},
@@ -250,6 +257,16 @@ mod live {
         bytes.iter().map(|byte| format!("{byte:02x}")).collect()
     }
 
+    pub fn evaluate(arguments: &[String], _: &mut dyn Read) -> Answer {
+        let n = arguments.first().map_or(Ok(12), |word| number(word, "number of images"))?;
+        let cases = cases(n);
+        let judged = evaluate::evaluate(&cases).map_err(failed)?;
+        let counts = evaluate::Counts(&cases, &judged);
+        let Some(project) = &judged.kept else { return Ok(counts.to_string().into_bytes()) };
+        let lines: String = judged.differences.iter().map(|difference| format!("\n{difference}")).collect();
+        Err(failed(format!("an answer differs, see {}\n{counts}{lines}", project.display())))
+    }
+
     /// The image on the input, normalised if it has layers.
     fn flat(input: &mut dyn Read) -> Result<Image, Stop> {
         match bridge::flat(image(input)?) {
@@ -280,6 +297,10 @@ mod live {
     }
 
     pub fn slips(_: &[String], _: &mut dyn Read) -> Answer {
+        Err(no_sources())
+    }
+
+    pub fn evaluate(_: &[String], _: &mut dyn Read) -> Answer {
         Err(no_sources())
     }
 
@@ -457,7 +478,7 @@ mod tests {
         let image = bytes("sample example", b"");
         let lines = "|nothing|show 1|sample|sample nothing|generate FlatSmall|generate Nothing 1\
             |generate FlatSmall -1|generate FlatSmall 18446744073709551616|report 1|picture|help me\
-            |families|families 1 2|slips many|slips 1 2|compare 1 2|bench 1";
+            |families|families 1 2|slips many|slips 1 2|evaluate 1 2|compare 1 2|bench 1";
         for line in lines.split('|') {
             let Outcome { status, out, err } = asked(line, &image);
             assert_eq!((status, out), (2, vec![]), "{line}");
@@ -522,7 +543,7 @@ mod tests {
     #[cfg(not(feature = "oracle"))]
     #[test]
     fn without_the_sources_a_line_says_so() {
-        for line in ["report", "picture 0", "families 1", "slips"] {
+        for line in ["report", "flat", "picture 0", "families 1", "slips", "evaluate"] {
             let Outcome { status, out, err } = asked(line, &bytes("sample example", b""));
             assert_eq!((status, out, err.lines().count()), (2, vec![], 1), "{line}");
         }
@@ -554,7 +575,9 @@ mod tests {
         let names = Family::ALL.iter().map(family_name).chain(["in all".into()]);
         assert!(counted.lines().zip(names).all(|(line, name)| line.starts_with(&format!("{name}: codes"))));
         assert_eq!(counted.lines().count(), Family::ALL.len() + 1);
-        assert_eq!(asked("families many", b"").status, 2);
+        for line in ["families many", "evaluate many"] {
+            assert_eq!(asked(line, b"").status, 2, "{line}");
+        }
     }
 
     #[cfg(feature = "oracle")]

@@ -31,6 +31,22 @@ pub const SAMPLES: [Sample; 16] = [
     slip!("never-union"),
 ];
 
+/// Images whose normalised image has as many locals as there may be, and one more.
+pub const CROWDED: [Sample; 2] = [("full", || crowd(0)), ("over", || crowd(1))];
+
+/// Sixteen jumps past sixteen open wires: the normalised image has 256 new locals, which is the maximum.
+fn crowd(locals: usize) -> Image {
+    let wire = |b| Port { kind: port::WIRE, b, ..Port::default() };
+    let jumps = stage(0, 0, vec![diverge(0); 16]);
+    Image {
+        layers: vec![Layer { parent: NONE, stages: vec![0] }],
+        interfaces: vec![unconditional(0, 0)],
+        stages: vec![Stage { header: header::ENTRY, ports: (0..16).map(wire).collect(), ..jumps }],
+        locals: vec![Local::default(); locals],
+        types: vec![Type::default()],
+    }
+}
+
 /// The image whose bytes stand as pairs of hex digits in lines.
 fn of_hex(text: &str) -> Image {
     let digits: Vec<u32> = text.chars().filter_map(|c| c.to_digit(16)).collect();
