@@ -37,6 +37,6 @@ live!(an_altered_answer_is_refused, {
     let Judged { differences, kept, .. } = evaluate(&cases).expect("a verdict");
     std::fs::remove_dir_all(kept.expect("it stays")).expect("it can be removed");
     let seeds: Vec<&str> = differences.iter().map(|difference| difference.seed.as_str()).collect();
-    assert_eq!(seeds, ["example", "inverse in a triple"]);
+    assert_eq!(seeds, ["example", "over"]);
     assert_eq!(differences[0].definition, ["byte 10 is 7, not 6"]);
 });
