@@ -1,16 +1,16 @@
 -- The order that union gives: a partial order, union its least upper bound, join monotone in it, and its height.
 use mathlib.Core.Path.{_≡_, _∙_, sym, ap}
-use mathlib.Core.Bool.{Bool, true, false, not}
+use mathlib.Core.Bool.{not}
 use mathlib.Core.List.{List, [], _∷_}
-use Prim.Native.Nat.{ℕ, _<_, _≤_}
+use Prim.Native.Nat.{_<_, _≤_}
 use native.Mathlib.Omega.{arith}
-use lib.Dec.{T, leb, leb→le, ltb, ltb→lt, not-T}
+use lib.Dec.{leb, leb→le, ltb, ltb→lt, not-T}
 use lib.ListN.{length}
 use Rattle.effect.specs.declared.Effect.{Effect}
 use Rattle.effect.specs.declared.Effect.the-variants.{Never}
 use Rattle.effect.specs.Effect.{join, union, UNION}
 use Rattle.effect.specs.Order.{_⊑_, Rising, rises}
-use Rattle.effect.proofs.Finite.{at, at₂, same, same→eq, eq→same, implies, use-implies}
+use Rattle.effect.proofs.Finite.{at, at₂, same, same→eq, implies, use-implies}
 use Rattle.effect.proofs.Laws.{union-assoc, union-comm, union-idem, never-union, join-union, union-join}
 
 pub ⊑-refl : (a : Effect) → a ⊑ a

@@ -1,7 +1,7 @@
 -- The starred examples of document 01 on effects, in its order.
 use mathlib.Core.List.{List, [], _∷_}
 use Rattle.effect.specs.declared.Effect.{Effect}
-use Rattle.effect.specs.declared.Effect.the-variants.{Pass as P, Barrier as B, PassBarrier as PB, ReadPass as RP, ReadBarrier as RB, ReadPassBarrier as RPB, BarrierWrite as BW, PassBarrierWrite as PBW, ReadBarrierWrite as RBW, ReadPassBarrierWrite as RPBW, Never as X}
+use Rattle.effect.specs.declared.Effect.the-variants.{Pass as P, Barrier as B, PassBarrier as PB, ReadPass as RP, ReadBarrier as RB, BarrierWrite as BW, PassBarrierWrite as PBW, ReadPassBarrierWrite as RPBW, Never as X}
 use Rattle.effect.specs.Effect.{numberOf, join, union}
 use Rattle.effect.specs.Example.{Example}
 

@@ -2,7 +2,7 @@
 use mathlib.Core.Path.{_≡_, _∙_, refl, sym, ap}
 use mathlib.Core.Bool.{Bool, true, false, not, _&&_}
 use mathlib.Core.List.{List}
-use Prim.Native.Nat.{ℕ, _+_, _≤_, _<_}
+use Prim.Native.Nat.{ℕ, _≤_, _<_}
 use lib.Dec.{eqb, ltb, leb}
 use native.Mathlib.Omega.{arith}
 use lib.ListN.{length, replicate, length-replicate}
@@ -10,8 +10,7 @@ use borrow.Author.Tests.{lt-ltb, le-ltb, eq-eqb, ne-eqb, leb-true}
 use Rattle.image.specs.declared.answer.Answer.{Answer}
 use Rattle.records.specs.declared.layout.Counts.{Counts}
 use Rattle.records.specs.declared.running.Running.{Running}
-use Rattle.records.specs.declared.running.Walked.{Walked}
-use Rattle.records.specs.declared.running.Walked.the-variants.{At, Clean}
+use Rattle.records.specs.declared.running.Walked.the-variants.{Clean}
 use Rattle.image.specs.Check.{refused, marked, owned, kindAnswer, recordAnswer, checkOf}
 use Rattle.records.specs.Judge.{walkAll}
 use Rattle.image.specs.Kind.{kindOfVir}

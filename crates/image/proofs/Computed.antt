@@ -8,7 +8,6 @@ use Rattle.vir.specs.Header.{headerOf}
 use Rattle.vir.specs.Interface.{kindOf}
 use Rattle.vir.specs.Port.{portOf}
 use Rattle.vir.specs.Step.{stepOf}
-use Rattle.image.specs.declared.answer.Answer.{Answer}
 use Rattle.records.specs.Bytes.{u16At, u32At}
 use Rattle.records.specs.Every.{every}
 use Rattle.image.specs.Check.{checkOf}

@@ -1,16 +1,15 @@
 -- An image that is longer than any accepted one is answered by its first bytes alone.
 use mathlib.Core.Path.{_≡_, _∙_, sym, ap, ap₂}
-use mathlib.Core.Bool.{Bool, true, false, _&&_}
+use mathlib.Core.Bool.{true, false, _&&_}
 use mathlib.Core.List.{List}
-use Prim.Native.Nat.{ℕ, _+_, _*_, _≤_, _<_}
+use Prim.Native.Nat.{ℕ, _+_, _*_, _<_}
 use native.Mathlib.Omega.{arith}
 use lib.Dec.{eqb}
 use lib.ListN.{length, getD, take}
 use lib.Seq.{getD-take}
-use Rattle.records.specs.declared.layout.Counts.{Counts}
 use Rattle.records.specs.Bytes.{u8At, u16At}
 use Rattle.image.specs.Check.{refused, marked, checkOf}
-use Rattle.records.specs.Layout.{countsOf, within, lengthOf}
+use Rattle.records.specs.Layout.{countsOf, within}
 use Rattle.image.proofs.Answering.{check-unmarked, check-count, check-length, within-most}
 
 module _ (s t : List ℕ) (same : take 21 s ≡ take 21 t) where

@@ -1,6 +1,6 @@
 -- The stages that an interface or a layer lists, in the view and in the bytes.
 use mathlib.Core.Path.{_≡_, _∙_, refl, sym, ap, subst}
-use mathlib.Core.Bool.{Bool, true, cond, _&&_, and-true}
+use mathlib.Core.Bool.{Bool, cond, _&&_, and-true}
 use mathlib.Core.List.{List, [], _∷_}
 use Prim.Native.Nat.{ℕ, zero, suc, _+_, _*_, _-_, _<_, _≤_}
 use native.Mathlib.Nat.{le-of-suc-le-suc, not-suc-le-zero}
@@ -12,14 +12,14 @@ use Rattle.vir.specs.Interface.{kindOf}
 use Rattle.records.specs.declared.layout.Counts.{Counts}
 use Rattle.records.specs.declared.record.InterfaceRecord.{InterfaceRecord}
 use Rattle.records.specs.declared.record.LayerRecord.{LayerRecord}
-use Rattle.image.specs.Accepted.{Accepted, NamedOrNone}
+use Rattle.image.specs.Accepted.{Accepted}
 use Rattle.records.specs.Bytes.{u16At}
 use Rattle.image.specs.Kind.{all, present, stagesIn, stagesOf}
-use Rattle.records.specs.Layout.{refsAt, layersAt, interfacesAt, stagesAt}
-use Rattle.records.specs.Records.{layerAt, interfaceAt, stageAt}
+use Rattle.records.specs.Layout.{refsAt, layersAt, interfacesAt}
+use Rattle.records.specs.Records.{layerAt, interfaceAt}
 use Rattle.image.specs.Tally.{tally, fieldIs}
 use Rattle.image.specs.View.{collect, kindIn, refsFrom, viewOf}
-use Rattle.image.specs.Vir.{Layer, Interface, Stage, layerOf, interfaceOf, stageOf}
+use Rattle.image.specs.Vir.{Layer, Stage, layerOf, interfaceOf, stageOf}
 use Rattle.image.proofs.Owning.{all-named, entries-named}
 use Rattle.image.proofs.Viewing.{layer-at, interface-at, stage-at}
 

@@ -1,5 +1,5 @@
 -- Document 01, "What a call returns": what normalise and analyse answer to an image, before room is looked at.
-use mathlib.Core.Bool.{true, false, cond, not, _&&_, _||_}
+use mathlib.Core.Bool.{cond, not, _&&_, _||_}
 use mathlib.Core.List.{List, [], _∷_}
 use Prim.Native.Nat.{ℕ}
 use lib.Dec.{eqb}

@@ -1,14 +1,14 @@
 -- Document 01: flat, layered, or neither.
-use mathlib.Core.Bool.{Bool, true, false, cond, not, _&&_, _||_}
+use mathlib.Core.Bool.{Bool, true, cond, _&&_}
 use mathlib.Core.List.{List, [], _∷_, _++_}
-use Prim.Native.Nat.{ℕ, zero, suc, _+_}
+use Prim.Native.Nat.{ℕ, _+_}
 use lib.Dec.{eqb, ltb}
 use lib.ListN.{length}
 use Rattle.vir.specs.declared.interface.InterfaceKind.{InterfaceKind}
 use Rattle.vir.specs.declared.interface.InterfaceKind.the-variants.{Unconditional, Branch, Match, Closure, Inspect}
 use Rattle.vir.specs.Ids.{none}
 use Rattle.records.specs.Every.{every}
-use Rattle.image.specs.Vir.{Interface, Stage, Vir, interfaceOf, stageOf}
+use Rattle.image.specs.Vir.{Interface, Vir, interfaceOf, stageOf}
 
 unfoldable pub all : {A : Type 0} → (A → Bool) → List A → Bool
 all f [] = true

@@ -1,5 +1,5 @@
 -- Document 01's layer rules, one definition for each.
-use mathlib.Core.Bool.{Bool, true, false, cond, _&&_, _||_}
+use mathlib.Core.Bool.{Bool, true, false, _&&_, _||_}
 use mathlib.Core.List.{List, [], _∷_}
 use Prim.Native.Nat.{ℕ, zero, suc}
 use lib.Dec.{eqb, ltb}
@@ -9,7 +9,7 @@ use Rattle.vir.specs.declared.step.Step.the-variants.{Invoke, Transfer, Diverge
 use Rattle.vir.specs.Ids.{none}
 use Rattle.records.specs.Every.{every}
 use Rattle.image.specs.Kind.{all, concat, occurrences}
-use Rattle.image.specs.Vir.{Layer, Action, Stage, Vir, layerOf, interfaceOf, stageOf}
+use Rattle.image.specs.Vir.{Stage, Vir, layerOf, interfaceOf, stageOf}
 
 -- a parent's number is below its child's
 abbrev pub parentsBelow : Vir → Bool

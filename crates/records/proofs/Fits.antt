@@ -1,6 +1,6 @@
 -- What the fields' tests show of a list of refs, and the cases of an interface's entries.
-use mathlib.Core.Path.{_≡_, _∙_, refl, sym, ap, subst}
-use mathlib.Core.Bool.{Bool, true, false, cond, _&&_, _||_}
+use mathlib.Core.Path.{_≡_, sym, ap, subst}
+use mathlib.Core.Bool.{Bool, true, false, _&&_, _||_}
 use mathlib.Core.List.{List}
 use Prim.Native.Nat.{ℕ, _+_, _*_, _≤_, _<_}
 use native.Mathlib.Omega.{arith}
@@ -17,7 +17,7 @@ use Rattle.records.specs.declared.record.PortRecord.{PortRecord}
 use Rattle.records.specs.declared.running.Running.{Running}
 use Rattle.records.specs.Bytes.{u16At}
 use Rattle.records.specs.Every.{every}
-use Rattle.records.specs.Faults.{orNone, laid, listAt, refsBelow, layerFields, kindLists, closureAt, entriesNamed, interfaceFields, stageNamed, stageLists, stageFields, portsLaid, stepNamed, typeNamed, portGood}
+use Rattle.records.specs.Faults.{orNone, laid, listAt, layerFields, kindLists, closureAt, entriesNamed, interfaceFields, stageNamed, stageLists, stageFields, portsLaid, stepNamed, typeNamed, portGood}
 use Rattle.records.proofs.Guards.{left-true, right-true}
 
 pub laid-first : (running total : ℕ) (run : Run) → laid running total run ≡ true → run .first ≡ running

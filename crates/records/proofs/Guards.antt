@@ -1,6 +1,6 @@
 -- A test that stands before another: what the code answers where the first fails, and where it passes.
 use mathlib.Core.Path.{_≡_, _∙_, refl, sym, ap}
-use mathlib.Core.Bool.{Bool, true, false, not, _&&_, and-false, true≢false}
+use mathlib.Core.Bool.{Bool, true, false, not, _&&_, true≢false}
 use borrow.Author.Tests.{not-true, not-false}
 
 pub guard-no : (a b r : Bool) → r ≡ a → not r ≡ true → false ≡ (a && b)

@@ -14,11 +14,10 @@ use Rattle.records.specs.declared.record.InterfaceRecord.{InterfaceRecor
 use Rattle.records.specs.declared.record.StageRecord.{StageRecord}
 use Rattle.records.specs.declared.record.StepRecord.{StepRecord}
 use Rattle.records.specs.declared.running.Running.{Running}
-use Rattle.records.specs.declared.running.Judged.{Judged}
 use Rattle.records.specs.declared.running.Judged.the-variants.{Fault, Next}
 use Rattle.records.specs.Faults.{orNone, laid, portsLaid, refsBelow, layerFields, layerGood, kindLists, entriesNamed, interfaceFields, interfaceGood, stageNamed, stageLists, stageFields, stageGood, stepHas, stepNamed, stepGood}
 use Rattle.records.proofs.Fits.{laid-next, stage-ports-fit}
-use Rattle.records.proofs.Guards.{left-true, right-true, guard-holds}
+use Rattle.records.proofs.Guards.{left-true, right-true}
 
 pub judged-no : (g : Bool) (n : Running) (b : Bool) → b ≡ g → not b ≡ true → Fault ≡ cond g (Next n) Fault
 judged-no g n b e h = sym (ap (λ (x : Bool). cond x (Next n) Fault) (sym e ∙ not-true b h))

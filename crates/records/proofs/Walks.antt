@@ -1,7 +1,7 @@
 -- Walks over the records: what is ahead gives what the whole gives.
 use mathlib.Core.Path.{_≡_, _∙_, refl, sym, ap, ap₂}
 use mathlib.Core.Bool.{Bool, true, cond, _&&_}
-use mathlib.Core.List.{List, [], _∷_}
+use mathlib.Core.List.{List}
 use Prim.Native.Nat.{ℕ, zero, suc, _+_, _*_, _-_, _≤_, _<_}
 use native.Mathlib.Numerals.{add-one}
 use native.Mathlib.Omega.{arith}
@@ -19,7 +19,7 @@ use Rattle.records.specs.Bytes.{u8At}
 use Rattle.records.specs.Every.{every}
 use Rattle.records.specs.Faults.{flagsGood}
 use Rattle.records.specs.Judge.{judge, after, walk, walkSection, onwards, walkAll}
-use Rattle.records.specs.Layout.{typesAt, typeSize, sections, sizeOf, countOf, startOf, lengthOf, Sized}
+use Rattle.records.specs.Layout.{typesAt, typeSize, sections, sizeOf, countOf, startOf, Sized}
 use Rattle.records.proofs.Every.{every-at}
 
 -- every section ends within the bytes

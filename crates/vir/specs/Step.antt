@@ -1,7 +1,7 @@
 -- A step: document 01's tag, what its fields say, and how many ports it has.
 use mathlib.Core.Bool.{cond}
 use mathlib.Core.List.{List, [], _∷_}
-use Prim.Native.Nat.{ℕ, _+_}
+use Prim.Native.Nat.{ℕ}
 use lib.Dec.{eqb}
 use lib.ListN.{getD}
 use Rattle.vir.specs.declared.arity.Arity.{Arity}
