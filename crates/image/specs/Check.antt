@@ -13,7 +13,7 @@ use Rattle.records.specs.Bytes.{u8At, u16At}
 use Rattle.records.specs.Judge.{walkAll}
 use Rattle.image.specs.Kind.{kindOfVir}
 use Rattle.image.specs.LayerRules.{layerRules}
-use Rattle.records.specs.Layout.{countsOf, within, lengthOf, sections}
+use Rattle.records.specs.Layout.{version, countsOf, within, lengthOf, sections}
 use Rattle.image.specs.View.{viewOf}
 use Rattle.image.specs.Vir.{Vir}
 
@@ -22,7 +22,7 @@ refused code place = record { code = code; place = place; kind = 0 }
 
 -- `VIR` and version 1
 abbrev pub marked : List ℕ → Bool
-marked s = eqb (u8At s 0) 86 && eqb (u8At s 1) 73 && eqb (u8At s 2) 82 && eqb (u16At s 3) 1
+marked s = eqb (u8At s 0) 86 && eqb (u8At s 1) 73 && eqb (u8At s 2) 82 && eqb (u16At s 3) version
 
 -- no list entry is unowned
 abbrev pub owned : Counts → Running → Bool

@@ -18,6 +18,7 @@ use Rattle.vir.specs.Interface.{kindNumber}
 use Rattle.vir.specs.Port.{portNumber}
 use Rattle.vir.specs.Step.{stepTag}
 use Rattle.records.specs.declared.layout.Counts.{Counts}
+use Rattle.records.specs.Layout.{version}
 use Rattle.image.specs.Kind.{all, concat}
 use Rattle.image.specs.Vir.{Layer, Interface, Port, Action, Stage, Local, Flex, Vir}
 
@@ -190,7 +191,7 @@ countBytes v =
 unfoldable pub encode : Vir → List ℕ
 encode v =
     (86 ∷ 73 ∷ 82 ∷ [])
-    ++ u16Bytes 1
+    ++ u16Bytes version
     ++ countBytes v
     ++ layersBytes 0 (v .layers)
     ++ interfacesBytes (length (layerRefs v)) (v .interfaces)

@@ -21,6 +21,7 @@ use crate::tally::counted;
 use records::bytes::u16_at;
 use records::layout::Counts;
 use records::layout::HEAD;
+use records::layout::VERSION;
 use records::running::Running;
 use records::running::Walked;
 use records::walk::walk;
@@ -39,7 +40,7 @@ fn marked(s: &[u8]) -> bool
     requires { ⌜ 21 ≤ length (now s) ⌝ }
     ensures { λ r. ⌜ r ≡ marked (now (s .entry)) ⌝ }
 {
-    (s[0] == 86) & (s[1] == 73) & (s[2] == 82) & (u16_at(s, 3) == 1)
+    (s[0] == 86) & (s[1] == 73) & (s[2] == 82) & (u16_at(s, 3) == VERSION)
 }
 
 fn owned(c: Counts, r: Running) -> bool

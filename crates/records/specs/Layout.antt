@@ -23,6 +23,10 @@ countsOf s = record {
   refs = u16At s 19;
 }
 
+-- the version of the image
+abbrev pub version : ℕ
+version = 1
+
 -- the bytes of the header, and of a record of each section
 abbrev pub headSize : ℕ
 headSize = 21

@@ -5,6 +5,8 @@ ghost use lib.ListN.{length, getD};
 ghost use Rattle.records.specs.Layout.{countsOf, interfacesAt, stagesAt, localsAt, typesAt, stepsAt, portsAt, refsAt, lengthOf, within, sections};
 use crate::bytes::u16_at;
 
+pub const VERSION: u16 = 1;
+
 // The header's bytes, then those of a record of each section.
 pub const HEAD: usize = 21;
 
