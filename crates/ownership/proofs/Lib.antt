@@ -1,3 +1,4 @@
+pub mod Computed
 pub mod Room
 pub mod Starred
 pub mod Unique
