@@ -1,2 +1,1 @@
 // analyzer.rs. For now its definitions, in specs/.
-pub fn none() {}

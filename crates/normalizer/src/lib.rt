@@ -1,2 +1,1 @@
 // normalizer.rs. For now its definitions, in specs/.
-pub fn none() {}

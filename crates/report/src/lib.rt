@@ -1,2 +1,1 @@
 // The report's bytes. For now their definition, in specs/.
-pub fn none() {}

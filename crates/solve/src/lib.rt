@@ -1,2 +1,1 @@
 // analyzer.rs: fixed_point, the worklist. For now its definition and the laws about it, in specs/ and proofs/.
-pub fn none() {}

@@ -1,2 +1,1 @@
 // Which values make an image that check takes: definitions and laws alone, in specs/ and proofs/.
-pub fn none() {}
