@@ -1,3 +1,4 @@
+pub mod Agreeing
 pub mod Computed
 pub mod Demand
 pub mod Each
@@ -9,4 +10,3 @@ pub mod Sizes
 pub mod Stages
 pub mod Starred
 pub mod Sweeps
-pub mod Worked

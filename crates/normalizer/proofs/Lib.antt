@@ -1,3 +1,4 @@
+pub mod Agreeing
 pub mod Calls
 pub mod Computed
 pub mod Counted
@@ -23,4 +24,3 @@ pub mod Splits
 pub mod Starred
 pub mod Sums
 pub mod Whole
-pub mod Worked
