@@ -24,14 +24,13 @@ use crate::{
     samples::{CROWDED, SAMPLES},
 };
 
-/// The longest generated image that is evaluated, in bytes.
+/// The longest generated image that is evaluated, in bytes, where a family has enough so short.
 const LONGEST: usize = 600;
-/// .. where a family has none so short; of FlatHeavy none is below 3,000, which is over the toolchain's limit of steps.
-const LONGEST_ALONE: usize = 2000;
 /// The longest normalised image that is analysed, and the longest answer that is looked into.
 const LONGEST_FLAT: usize = 1500;
-/// So many seeds are looked through for each image that is asked for.
-const SEEDS: u64 = 20;
+/// So many seeds are looked through for each image that is asked for: making an image costs little beside evaluating it,
+/// and among more seeds there are shorter ones.
+const SEEDS: u64 = 200;
 /// The span that flat images are analysed with besides 0; it has four different bytes.
 const SPAN: u32 = 0x0403_0201;
 /// How many images stand in one file.
@@ -72,8 +71,8 @@ pub struct Difference {
     pub definition: Vec<String>,
 }
 
-/// The samples, of each family the first n images that are short enough, or the shortest of them if none is, and of each
-/// set of small images a quarter as many; behind a layered image the normalised one.
+/// The samples, of each family n short images, and of each set of small images a quarter as many; behind a layered
+/// image the normalised one.
 pub fn cases(n: usize) -> Vec<Case> {
     let samples = SAMPLES.iter().chain(&CROWDED);
     let samples = samples.map(|(name, make)| (SAMPLE.into(), name.to_string(), make().encode()));
@@ -82,16 +81,24 @@ pub fn cases(n: usize) -> Vec<Case> {
         numbers.map(|number| (SMALL.into(), format!("{} {number}", set.name), set.image(number).encode()))
     });
     let generated = Family::ALL.into_iter().flat_map(|family| {
-        let images = || (0..SEEDS * n as u64).map(move |seed| (seed, generate::image(family, seed)));
-        let mut short: Vec<_> = images().filter(|(_, image)| image.len() <= LONGEST).take(n).collect();
-        if short.is_empty() {
-            let shortest = images().min_by_key(|(_, image)| image.len());
-            short.extend(shortest.filter(|(_, image)| image.len() <= LONGEST_ALONE));
-        }
-        short.into_iter().map(move |(seed, image)| (format!("{family:?}"), seed.to_string(), image))
+        let seeds = short(family, n).into_iter();
+        seeds.map(move |seed| (format!("{family:?}"), seed.to_string(), generate::image(family, seed)))
     });
     let all = samples.chain(small).chain(generated);
     all.flat_map(|(family, seed, image)| with_its_flat(family, seed, image)).collect()
+}
+
+/// The seeds of a family's first n images of at most LONGEST bytes, or of its n shortest where there are fewer.
+fn short(family: Family, n: usize) -> Vec<u64> {
+    let length = |seed| generate::image(family, seed).len().max(LONGEST);
+    let mut seeds: Vec<_> = (0..SEEDS * n as u64).map(|seed| (length(seed), seed)).collect();
+    seeds.sort_unstable();
+    seeds.into_iter().take(n).map(|(_, seed)| seed).collect()
+}
+
+/// How many images of a family there are, without the normalised ones.
+pub fn images(cases: &[Case], family: &str) -> usize {
+    cases.iter().filter(|case| case.family == family && !case.seed.ends_with(NORMALISED)).count()
 }
 
 fn with_its_flat(family: String, seed: String, image: Vec<u8>) -> Vec<Case> {
@@ -394,9 +401,9 @@ impl Display for Counts<'_> {
         let Counts(cases, Judged { differences, undecided, .. }) = self;
         let own = [SAMPLE, SMALL].map(String::from).into_iter();
         for family in own.chain(Family::ALL.map(|family| format!("{family:?}"))) {
-            let of_family = || cases.iter().filter(|case| case.family == family);
-            let images = of_family().filter(|case| !case.seed.ends_with(NORMALISED)).count();
-            let answers: usize = of_family().map(|case| case.answers.len()).sum();
+            let images = images(cases, &family);
+            let of_family = cases.iter().filter(|case| case.family == family);
+            let answers: usize = of_family.map(|case| case.answers.len()).sum();
             let undecided = undecided.iter().filter(|&of| *of == family).count();
             let others = differences.iter().filter(|other| other.family == family).count();
             let alike = answers - undecided - others;

@@ -50,7 +50,8 @@ pub enum Family {
     FlatLarge,
     /// Accepted, kind 1: one or two locals, all interfaces reached but some Inspects, steps that meet on the locals.
     FlatAimed,
-    /// Accepted, kind 1: incoming past 16 bits, diagnostics around and past 1,024, or as many relations as there can be.
+    /// Accepted, kind 1: incoming past 16 bits, diagnostics around and past 1,024, or as many relations as there can be;
+    /// one in four is light: the same with small counts, incoming around 8 bits.
     FlatHeavy,
     /// Accepted, kind 2, a few records.
     LayeredSmall,

@@ -7,10 +7,14 @@ live!(the_definitions_answer_as_the_rust_does, {
     use std::collections::BTreeSet;
 
     use harness::{
-        evaluate::{Call, Counts, cases, evaluate},
+        evaluate::{Call, Counts, cases, evaluate, images},
+        generate::Family,
         report::Report,
     };
     let cases = cases(12);
+    for family in Family::ALL.map(|family| format!("{family:?}")) {
+        assert!(images(&cases, &family) >= 12, "{family} has too few images");
+    }
     let judged = evaluate(&cases).expect("a verdict");
     println!("{}", Counts(&cases, &judged));
     let lines: Vec<String> = judged.differences.iter().map(ToString::to_string).collect();

@@ -83,7 +83,8 @@ pub(super) fn excess(rng: &mut Rng) -> Image {
     image
 }
 
-/// One stage with many open wires and many Diverges: each Diverge asks for a local per wire.
+/// One stage with many open wires and many Diverges: each Diverge asks for a local per wire. What they leave of the
+/// maximum the image has itself.
 fn many_locals(rng: &mut Rng) -> Image {
     let mut image = Image {
         layers: vec![Layer { parent: NONE, stages: vec![0] }],
@@ -91,13 +92,25 @@ fn many_locals(rng: &mut Rng) -> Image {
         types: vec![Type { upright: rng.below(16) as u8, inverted: rng.below(16) as u8 }],
         ..Image::default()
     };
-    let wires = rng.pick(&[16, 255, 256, 257, 1000, MAXIMA[PORTS]]);
-    let splits = rng.pick(&[1, 2, 16, 255, 256, MAXIMA[STEPS] - 1]);
+    let (wires, splits) = if rng.chance(50) { few_for_all(rng) } else { many(rng) };
     let wire = |b: usize| Port { ty: 0, kind: port::WIRE, a: b as u32, b: b as u16 };
     let list = Step { tag: tag::LIST, a: 0, b: 0, ports: (0..wires).map(wire).collect() };
     let diverge = Step { tag: tag::DIVERGE, a: 0, b: rng.pick(&[0, NONE]), ports: vec![] };
     let mut steps = vec![list];
     steps.extend(std::iter::repeat_n(diverge, splits));
     image.stages.push(Stage { steps, transfer: NONE, wires: wires as u16, ..Stage::default() });
+    let wanted = MAXIMA[LOCALS] + rng.below(2);
+    grow(rng, &mut image, LOCALS, wanted.saturating_sub(wires * splits));
     image
+}
+
+fn many(rng: &mut Rng) -> (usize, usize) {
+    let wires = rng.pick(&[16, 255, 256, 257, 1000, MAXIMA[PORTS]]);
+    (wires, rng.pick(&[1, 2, 16, 255, 256, MAXIMA[STEPS] - 1]))
+}
+
+/// As few wires and Diverges as ask for nearly all locals there can be: such an image is short.
+fn few_for_all(rng: &mut Rng) -> (usize, usize) {
+    let wires = rng.between(7, 32);
+    (wires, MAXIMA[LOCALS] / wires)
 }
