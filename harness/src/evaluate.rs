@@ -33,7 +33,7 @@ const LONGEST_FLAT: usize = 1500;
 const SEEDS: u64 = 200;
 /// The span that flat images are analysed with besides 0; it has four different bytes.
 const SPAN: u32 = 0x0403_0201;
-/// How many images stand in one file.
+/// At most so many images stand in one file.
 const IN_A_FILE: usize = 20;
 /// Of so many differences it is asked where they are, this many numbers at a time before it is asked for one.
 const LOOKED_INTO: usize = 3;
@@ -154,7 +154,10 @@ pub struct Judged {
 /// Has the toolchain hold every answer against the definitions'. An error is anything but a verdict.
 pub fn evaluate(cases: &[Case]) -> Result<Judged, String> {
     let project = Project::new().map_err(|why| format!("no project could be written: {why}"))?;
-    let files: Vec<String> = cases.chunks(IN_A_FILE).enumerate().map(|(n, some)| file(n, some)).collect();
+    // dealt out, so that no crate has all large images
+    let count = cases.len().div_ceil(IN_A_FILE);
+    let dealt = |n: usize| cases.iter().enumerate().skip(n).step_by(count);
+    let files: Vec<String> = (0..count).map(|n| file(dealt(n))).collect();
     let refused = project.check(&files)?;
     let (mut differences, mut undecided) = (vec![], vec![]);
     for (n, case) in cases.iter().enumerate() {
@@ -196,10 +199,10 @@ use Rattle.analyzer.proofs.Computed.{analysed}
 use Rattle.normalizer.proofs.Computed.{normalised}
 ";
 
-/// The nth file, with a claim for each answer.
-fn file(n: usize, cases: &[Case]) -> String {
+/// A file with a claim for each answer to these cases, which have their numbers with them.
+fn file<'a>(cases: impl Iterator<Item = (usize, &'a Case)>) -> String {
     let mut text = HEAD.to_string();
-    for (n, case) in (n * IN_A_FILE..).zip(cases) {
+    for (n, case) in cases {
         text += &format!("\n-- {} {}{}", case.family, case.seed, definition(n, &case.image));
         for (m, (call, answer)) in case.answers.iter().enumerate() {
             text += &proof(&claim(n, m), n, &call.on(n), &list(answer));

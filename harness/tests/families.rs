@@ -18,6 +18,29 @@ live!(images_of_every_family, {
     assert_eq!(counts.missing(), [""; 0], "what never came up");
 });
 
+live!(heavy_images_are_at_the_limits_or_light, {
+    use harness::{
+        bridge,
+        generate::{Family, image},
+        image::{Image, MAXIMA},
+        report::KEPT,
+    };
+    let (mut incoming, mut diagnostics, mut stages, mut light) = (0, 0, 0, 0);
+    for seed in 0..100 {
+        let bytes = image(Family::FlatHeavy, seed);
+        let image = Image::decode(&bytes);
+        let report = bridge::report(&image, 0);
+        incoming += u32::from(report.incoming.iter().any(|&count| count > 0xffff));
+        diagnostics += u32::from(report.total as usize > KEPT);
+        stages += u32::from(image.stages.len() == MAXIMA[2]);
+        light += u32::from(bytes.len() <= 600);
+    }
+    println!(
+        "incoming past 16 bits {incoming}, diagnostics past {KEPT} {diagnostics}, all stages {stages}, light {light}"
+    );
+    assert!([incoming, diagnostics, stages, light].iter().all(|&count| count > 0));
+});
+
 live!(all_small_images, {
     let counts = harness::families::walk_small();
     println!("{counts}");

@@ -85,6 +85,7 @@ fn excess_goes_over_and_just_not() {
             over[section] += u32::from(counts[section] > MAXIMA[section]);
             brim[section] += u32::from(counts[section] == MAXIMA[section]);
         }
+        assert!(counts.iter().zip(MAXIMA).any(|(&count, max)| count >= max), "{seed}: {counts:?}");
         far += u32::from(counts[3] > 1_000_000);
     }
     println!("over {over:?}, at the maximum {brim:?}, over a million locals {far}");
