@@ -31,7 +31,7 @@ const LONGEST_FLAT: usize = 1500;
 /// So many seeds are looked through for each image that is asked for: making an image costs little beside evaluating it,
 /// and among more seeds there are shorter ones.
 const SEEDS: u64 = 200;
-/// The span that flat images are analysed with besides 0; it has four different bytes.
+/// The span that flat images are analysed with, short ones with 0 too; it has four different bytes.
 const SPAN: u32 = 0x0403_0201;
 /// At most so many images stand in one file.
 const IN_A_FILE: usize = 20;
@@ -102,8 +102,13 @@ pub fn images(cases: &[Case], family: &str) -> usize {
 }
 
 fn with_its_flat(family: String, seed: String, image: Vec<u8>) -> Vec<Case> {
-    let spans = if check(&image).kind == FLAT { vec![0, SPAN] } else { vec![0] };
-    let calls = [Call::Normalise].into_iter().chain(spans.into_iter().map(Call::Analyse));
+    let spans: &[u32] = match check(&image).kind {
+        FLAT if image.len() <= LONGEST => &[0, SPAN],
+        // each answer to a long image takes seconds
+        FLAT => &[SPAN],
+        _ => &[0],
+    };
+    let calls = [Call::Normalise].into_iter().chain(spans.iter().copied().map(Call::Analyse));
     let first = case(family.clone(), seed.clone(), image, calls);
     let flat = match &first.answers[0].1[..] {
         [0, 0, flat @ ..] if flat.len() <= LONGEST_FLAT => {
