@@ -51,7 +51,7 @@ pub enum Family {
     /// Accepted, kind 1: one or two locals, all interfaces reached but some Inspects, steps that meet on the locals.
     FlatAimed,
     /// Accepted, kind 1: incoming past 16 bits, diagnostics around and past 1,024, or as many relations as there can be;
-    /// one in four is light: the same with small counts, incoming around 8 bits.
+    /// one in four is light: the same shape with small counts, incoming up to just past 8 bits.
     FlatHeavy,
     /// Accepted, kind 2, a few records.
     LayeredSmall,

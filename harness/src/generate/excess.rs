@@ -61,8 +61,8 @@ fn step_divergence(image: &Image, divergences: &[usize], step: &Step) -> usize {
     }
 }
 
-/// A valid layered image whose normalised image has one count at its maximum or a little over it; or one that asks for
-/// very many new locals.
+/// A valid layered image whose normalised image has one count at its maximum or a little over it; or one whose new
+/// locals bring it there or far over.
 pub(super) fn excess(rng: &mut Rng) -> Image {
     if rng.chance(10) {
         return many_locals(rng);

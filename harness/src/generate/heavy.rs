@@ -1,4 +1,5 @@
-//! Flat images at the limits of the report: incoming past 16 bits, very many diagnostics, very many relations.
+//! Flat images at the limits of the report: incoming past 16 bits, very many diagnostics, very many relations; and the
+//! same shapes light.
 
 use super::{
     bytes::section::*,
@@ -19,9 +20,10 @@ pub(super) fn heavy(rng: &mut Rng) -> Image {
 
 /// Interface 0 lists stage 0 many times, and each time it is swept its Transfers count again.
 fn many_incoming(rng: &mut Rng, light: bool) -> Image {
-    let (entries, transfers) = match light {
-        true => (rng.pick(&[3, 15, 16, 17]), rng.pick(&[5, 16, 17, 20])),
-        false => (rng.pick(&[64, 255, 256, 2000]), rng.pick(&[256, 257, 1024, 2040])),
+    let (entries, transfers) = if light {
+        (rng.pick(&[3, 15, 16, 17]), rng.pick(&[5, 16, 17, 20]))
+    } else {
+        (rng.pick(&[64, 255, 256, 2000]), rng.pick(&[256, 257, 1024, 2040]))
     };
     let list = vec![0; entries];
     let interfaces = vec![
@@ -52,9 +54,10 @@ fn many_diagnostics(rng: &mut Rng, light: bool) -> Image {
 
 /// Every stage declares and transfers as often as steps allow, each interface reached from the one before.
 fn many_relations(rng: &mut Rng, light: bool) -> Image {
-    let (count, steps) = match light {
-        true => (rng.between(3, 8), rng.between(2, 8)),
-        false => (MAXIMA[STAGES], MAXIMA[STEPS] / MAXIMA[STAGES]),
+    let (count, steps) = if light {
+        (rng.between(3, 8), rng.between(2, 8))
+    } else {
+        (MAXIMA[STAGES], MAXIMA[STEPS] / MAXIMA[STAGES])
     };
     let invokes = rng.pick(&[0, 0, 20, 50]);
     let interfaces = (0..count as u16).map(|n| interface(kind::UNCONDITIONAL, &[n])).collect();
