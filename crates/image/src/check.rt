@@ -10,9 +10,8 @@ ghost use Rattle.image.specs.View.{viewOf};
 ghost use Rattle.records.specs.Judge.{walkAll};
 ghost use Rattle.records.specs.Layout.{sections, Sized};
 use crate::answer::Answer;
-use crate::entering::diverges_out;
-use crate::entering::enter_all;
 use crate::entering::entered_once;
+use crate::entering::jump_all;
 use crate::kind::kind;
 use crate::layer_rules::interfaces_lie;
 use crate::layer_rules::parents_below;
@@ -46,7 +45,9 @@ fn marked(s: &[u8]) -> bool
 fn owned(c: Counts, r: Running) -> bool
     ensures { λ b. ⌜ b ≡ owned c r ⌝ }
 {
-    (r.refs == c.refs) & (r.steps == c.steps) & (r.ports == c.ports)
+    (r.refs == (c.refs as usize))
+        & (r.steps == (c.steps as usize))
+        & (r.ports == (c.ports as usize))
 }
 
 fn layer_rules(s: &[u8], c: Counts) -> bool
@@ -67,13 +68,14 @@ fn layer_rules(s: &[u8], c: Counts) -> bool
         return false;
     }
     let mut entered = [0u8; 256];
-    if !enter_all(s, c, &mut entered) {
+    let found = jump_all(s, c, &mut entered);
+    if !found.entered {
         return false;
     }
     if !entered_once(s, c, &entered) {
         return false;
     }
-    diverges_out(s, c)
+    found.out
 }
 
 // 7 kind, 8 layers.

@@ -39,71 +39,29 @@ fn enter(s: &[u8], c: Counts, l: u16, m: u16, ok: bool, counts: &mut [u8; 256]) 
     ok & ((parent == 65535) | (parent == l))
 }
 
-// The step k, which stands in the layer l, enters its interface's layer if it is a Transfer.
-fn enter_step(s: &[u8], c: Counts, l: u16, k: usize, ok: bool, counts: &mut [u8; 256]) -> bool
+// The step k, at p, which stands in the layer l, enters its interface's layer if it is a Transfer.
+fn enter_step(
+    s: &[u8],
+    c: Counts,
+    l: u16,
+    k: usize,
+    p: usize,
+    ok: bool,
+    counts: &mut [u8; 256],
+) -> bool
     requires { ⌜ Accepted (now s) c ⌝ }
     requires { ⌜ interfacesLie (viewOf (now s) c) ≡ true ⌝ }
     requires { ⌜ k < c .steps ⌝ }
+    requires { ⌜ p ≡ stepsAt c + stepSize * k ⌝ }
     ensures { λ r. ⌜ (r ≡ (ok && all (enterable (viewOf (now (s .entry)) c) l) (entersOf (viewOf (now (s .entry)) c) (actionAt (now (s .entry)) c k))))
         × (now (counts .exit) ≡ tally (entersOf (viewOf (now (s .entry)) c) (actionAt (now (s .entry)) c k)) (now (counts .entry))) ⌝ }
 {
-    let p = c.steps_at() + STEP * k;
     if s[p] != 6 {
         return ok;
     }
     let b = u16_at(s, p + 5);
     let m = u16_at(s, c.interfaces_at() + INTERFACE * (b as usize));
     enter(s, c, l, m, ok, counts)
-}
-
-// The steps of a list; `before` is what those in front of it came to.
-fn enter_run(s: &[u8], c: Counts, l: u16, run: Run, before: bool, counts: &mut [u8; 256]) -> bool
-    requires { ⌜ Accepted (now s) c ⌝ }
-    requires { ⌜ interfacesLie (viewOf (now s) c) ≡ true ⌝ }
-    requires { ⌜ run .first + run .count ≤ c .steps ⌝ }
-    ensures { λ r. ⌜ (r ≡ (before && all (enterable (viewOf (now (s .entry)) c) l)
-        (concat (entersOf (viewOf (now (s .entry)) c)) (actionsOf (now (s .entry)) c run))))
-        × (now (counts .exit) ≡ tally (concat (entersOf (viewOf (now (s .entry)) c)) (actionsOf (now (s .entry)) c run)) (now (counts .entry))) ⌝ }
-{
-    let mut k = run.first as usize;
-    let mut left = run.count;
-    let mut ok = before;
-    while left != 0 {
-        ok = enter_step(s, c, l, k, ok, counts);
-        k += 1;
-        left -= 1;
-    }
-    ok
-}
-
-fn enter_stage(s: &[u8], c: Counts, t: u16, ok: bool, counts: &mut [u8; 256]) -> bool
-    requires { ⌜ Accepted (now s) c ⌝ }
-    requires { ⌜ interfacesLie (viewOf (now s) c) ≡ true ⌝ }
-    requires { ⌜ t < c .stages ⌝ }
-    ensures { λ r. ⌜ (r ≡ (ok && all (enterable (viewOf (now (s .entry)) c) (stageOf (viewOf (now (s .entry)) c) t .layer))
-        (entries (viewOf (now (s .entry)) c) (stageOf (viewOf (now (s .entry)) c) t))))
-        × (now (counts .exit) ≡ tally (entries (viewOf (now (s .entry)) c) (stageOf (viewOf (now (s .entry)) c) t)) (now (counts .entry))) ⌝ }
-{
-    let p = c.stages_at() + STAGE * (t as usize);
-    let l = u16_at(s, p + 6);
-    let run = Run::read(s, p + 21);
-    enter_run(s, c, l, run, ok, counts)
-}
-
-// Whether each layer with a parent is entered from it alone; how often each is entered is counted.
-pub fn enter_all(s: &[u8], c: Counts, counts: &mut [u8; 256]) -> bool
-    requires { ⌜ Accepted (now s) c ⌝ }
-    requires { ⌜ interfacesLie (viewOf (now s) c) ≡ true ⌝ }
-    ensures { λ r. ⌜ (r ≡ enteredFromParent (viewOf (now (s .entry)) c))
-        × (now (counts .exit) ≡ tally (concat (entries (viewOf (now (s .entry)) c)) (viewOf (now (s .entry)) c .stages)) (now (counts .entry))) ⌝ }
-{
-    let mut t: u16 = 0;
-    let mut ok = true;
-    while t < c.stages {
-        ok = enter_stage(s, c, t, ok, counts);
-        t += 1;
-    }
-    ok
 }
 
 // Whether every layer with a parent was counted once.
@@ -155,56 +113,80 @@ fn diverge_step(s: &[u8], c: Counts, l: u16, k: usize, p: usize, ok: bool, known
     Around { ok: false, known }
 }
 
-fn diverge_run(s: &[u8], c: Counts, l: u16, run: Run, before: bool) -> bool
+// What the Transfers and the Diverges so far came to.
+pub struct Jumps {
+    pub entered: bool,
+    pub out: bool,
+}
+
+// The steps of a list; `before` is what those in front of it came to.
+fn jump_run(s: &[u8], c: Counts, l: u16, run: Run, before: Jumps, counts: &mut [u8; 256]) -> Jumps
     requires { ⌜ Accepted (now s) c ⌝ }
+    requires { ⌜ interfacesLie (viewOf (now s) c) ≡ true ⌝ }
     requires { ⌜ parentsBelow (viewOf (now s) c) ≡ true ⌝ }
     requires { ⌜ l < c .layers ⌝ }
     requires { ⌜ run .first + run .count ≤ c .steps ⌝ }
-    ensures { λ r. ⌜ r ≡ (before && all (liesIn (viewOf (now (s .entry)) c) l) (concat divergesOf (actionsOf (now (s .entry)) c run))) ⌝ }
+    ensures { λ r. ⌜ (r .entered ≡ (before .entered && all (enterable (viewOf (now (s .entry)) c) l)
+        (concat (entersOf (viewOf (now (s .entry)) c)) (actionsOf (now (s .entry)) c run))))
+        × (now (counts .exit) ≡ tally (concat (entersOf (viewOf (now (s .entry)) c)) (actionsOf (now (s .entry)) c run)) (now (counts .entry)))
+        × (r .out ≡ (before .out && all (liesIn (viewOf (now (s .entry)) c) l) (concat divergesOf (actionsOf (now (s .entry)) c run)))) ⌝ }
 {
     let mut k = run.first as usize;
     let mut p = c.steps_at() + STEP * k;
     let mut left = run.count;
-    let mut ok = before;
+    let mut entered = before.entered;
+    let mut out = before.out;
     let mut known = l;
     while left != 0 {
-        let next = diverge_step(s, c, l, k, p, ok, known);
-        ok = next.ok;
+        entered = enter_step(s, c, l, k, p, entered, counts);
+        let next = diverge_step(s, c, l, k, p, out, known);
+        out = next.ok;
         known = next.known;
         p += STEP;
         k += 1;
         left -= 1;
     }
-    ok
+    Jumps { entered, out }
 }
 
-fn diverge_stage(s: &[u8], c: Counts, t: u16, ok: bool) -> bool
+fn jump_stage(s: &[u8], c: Counts, t: u16, before: Jumps, counts: &mut [u8; 256]) -> Jumps
     requires { ⌜ Accepted (now s) c ⌝ }
+    requires { ⌜ interfacesLie (viewOf (now s) c) ≡ true ⌝ }
     requires { ⌜ parentsBelow (viewOf (now s) c) ≡ true ⌝ }
     requires { ⌜ t < c .stages ⌝ }
     requires { ⌜ stageOf (viewOf (now s) c) t .layer < c .layers ⌝ }
-    ensures { λ r. ⌜ r ≡ (ok && all (liesIn (viewOf (now (s .entry)) c) (stageOf (viewOf (now (s .entry)) c) t .layer))
-        (targets (stageOf (viewOf (now (s .entry)) c) t))) ⌝ }
+    ensures { λ r. ⌜ (r .entered ≡ (before .entered && all (enterable (viewOf (now (s .entry)) c) (stageOf (viewOf (now (s .entry)) c) t .layer))
+        (entries (viewOf (now (s .entry)) c) (stageOf (viewOf (now (s .entry)) c) t))))
+        × (now (counts .exit) ≡ tally (entries (viewOf (now (s .entry)) c) (stageOf (viewOf (now (s .entry)) c) t)) (now (counts .entry)))
+        × (r .out ≡ (before .out && all (liesIn (viewOf (now (s .entry)) c) (stageOf (viewOf (now (s .entry)) c) t .layer))
+        (targets (stageOf (viewOf (now (s .entry)) c) t)))) ⌝ }
 {
     let p = c.stages_at() + STAGE * (t as usize);
     let l = u16_at(s, p + 6);
     let run = Run::read(s, p + 21);
-    diverge_run(s, c, l, run, ok)
+    jump_run(s, c, l, run, before, counts)
 }
 
-// Whether each Diverge names its own layer or one around it.
-pub fn diverges_out(s: &[u8], c: Counts) -> bool
+// Whether each layer with a parent is entered from it alone, and whether each Diverge names its own layer or one around it; how often each
+// layer is entered is counted.
+pub fn jump_all(s: &[u8], c: Counts, counts: &mut [u8; 256]) -> Jumps
     requires { ⌜ Accepted (now s) c ⌝ }
+    requires { ⌜ interfacesLie (viewOf (now s) c) ≡ true ⌝ }
     requires { ⌜ parentsBelow (viewOf (now s) c) ≡ true ⌝ }
     requires { ⌜ listedByOwnLayer (viewOf (now s) c) ≡ true ⌝ }
     requires { ⌜ listedOnce (viewOf (now s) c) ≡ true ⌝ }
-    ensures { λ r. ⌜ r ≡ divergesOut (viewOf (now (s .entry)) c) ⌝ }
+    ensures { λ r. ⌜ (r .entered ≡ enteredFromParent (viewOf (now (s .entry)) c))
+        × (now (counts .exit) ≡ tally (concat (entries (viewOf (now (s .entry)) c)) (viewOf (now (s .entry)) c .stages)) (now (counts .entry)))
+        × (r .out ≡ divergesOut (viewOf (now (s .entry)) c)) ⌝ }
 {
     let mut t: u16 = 0;
-    let mut ok = true;
+    let mut so_far = Jumps {
+        entered: true,
+        out: true,
+    };
     while t < c.stages {
-        ok = diverge_stage(s, c, t, ok);
+        so_far = jump_stage(s, c, t, so_far, counts);
         t += 1;
     }
-    ok
+    so_far
 }

@@ -85,19 +85,18 @@ pub fn tally_run(
     ok
 }
 
-// Whether each of the first n was counted at least once, and at most so often.
+// Whether each of the first n was counted at least once, and at most so often: many are tested at a time.
 pub fn counted(counts: &[u8; 256], n: u16, most: u8) -> bool
     requires { ⌜ n ≤ 256 ⌝ }
     ensures { λ r. ⌜ r ≡ every n (countedAt (now (counts .entry)) most) ⌝ }
 {
-    let mut i: u16 = 0;
-    while i < n {
-        let t = i as usize;
-        let k = counts[t];
-        if !((1 <= k) & (k <= most)) {
-            return false;
-        }
+    let m = n as usize;
+    let mut i: usize = 0;
+    let mut ok = true;
+    while i < m {
+        let k = counts[i];
+        ok = ok & ((1 <= k) & (k <= most));
         i += 1;
     }
-    true
+    ok
 }

@@ -1,11 +1,12 @@
 -- What the fields' tests show of a list of refs, and the cases of an interface's entries.
-use mathlib.Core.Path.{_≡_, sym, ap, subst}
-use mathlib.Core.Bool.{Bool, true, false, _&&_, _||_}
+use mathlib.Core.Path.{_≡_, _∙_, refl, sym, ap, subst}
+use mathlib.Core.Bool.{Bool, true, false, not, _&&_, _||_, and-true, and-false, or-true}
 use mathlib.Core.List.{List}
 use Prim.Native.Nat.{ℕ, _+_, _*_, _≤_, _<_}
 use native.Mathlib.Omega.{arith}
 use lib.Dec.{eqb, ltb, leb}
 use borrow.Author.Tests.{leb-true, eqb-true, eq-eqb, ne-eqb, le-leb, lt-leb}
+use Rattle.vir.specs.Ids.{none}
 use Rattle.vir.specs.Interface.{kindOf}
 use Rattle.records.specs.declared.layout.Counts.{Counts}
 use Rattle.records.specs.declared.record.Run.{Run}
@@ -17,7 +18,7 @@ use Rattle.records.specs.declared.record.PortRecord.{PortRecord}
 use Rattle.records.specs.declared.running.Running.{Running}
 use Rattle.records.specs.Bytes.{u16At}
 use Rattle.records.specs.Every.{every}
-use Rattle.records.specs.Faults.{orNone, laid, listAt, layerFields, kindLists, closureAt, entriesNamed, interfaceFields, stageNamed, stageLists, stageFields, portsLaid, stepNamed, typeNamed, portGood}
+use Rattle.records.specs.Faults.{orNone, laid, listAt, layerFields, kindLists, closureAt, entriesNamed, interfaceFields, stageNamed, stageLists, stageFields, portsLaid, transferGood, stepNamed, typeNamed, portGood}
 use Rattle.records.proofs.Guards.{left-true, right-true}
 
 pub laid-first : (running total : ℕ) (run : Run) → laid running total run ≡ true → run .first ≡ running
@@ -66,6 +67,21 @@ module _ (c : Counts) (r : Running) (t : StageRecord) (h : stageFields c r t ≡
   stage-ports-fit =
       leb-true (t .ports .first + t .ports .count + t .payload) (c .ports)
       (right-true (eqb (t .ports .first) (r .ports)) _ (left-true (portsLaid (r .ports) (c .ports) (t .ports) (t .payload)) _ first-two))
+
+module _ (c : Counts) (t : StageRecord) where
+  -- without a transfer there is no data
+  pub transfer-none : t .transfer .0 ≡ none → eqb (t .payload) 0 ≡ transferGood c t
+  transfer-none h = go (eqb (t .payload) 0) refl ∙ sym (ap (λ (x : Bool). (x || ltb (t .transfer .0) (c .interfaces)) && leb (t .payload) 1 && (eqb (t .payload) 0 || not x)) (eq-eqb _ _ h))
+    where
+      go : (x : Bool) → eqb (t .payload) 0 ≡ x → x ≡ (leb (t .payload) 1 && (x || false))
+      go true e = let zeroth : t .payload ≡ 0 = eqb-true (t .payload) 0 e in sym (ap (λ (x : Bool). x && true) (le-leb (t .payload) 1 (omega arith)))
+      go false e = sym (and-false (leb (t .payload) 1))
+
+  pub transfer-some : (t .transfer .0 ≡ none → ⊥) → (ltb (t .transfer .0) (c .interfaces) && leb (t .payload) 1) ≡ transferGood c t
+  transfer-some h =
+      sym (and-true (ltb (t .transfer .0) (c .interfaces) && leb (t .payload) 1))
+      ∙ sym (ap (λ (x : Bool). ltb (t .transfer .0) (c .interfaces) && leb (t .payload) 1 && x) (or-true (eqb (t .payload) 0)))
+      ∙ sym (ap (λ (x : Bool). (x || ltb (t .transfer .0) (c .interfaces)) && leb (t .payload) 1 && (eqb (t .payload) 0 || not x)) (ne-eqb _ _ h))
 
 module _ (s : List ℕ) (c : Counts) (i : InterfaceRecord) (p : ℕ) (e : p ≡ listAt c (i .list)) where
   pub entries-inspect : i .kind ≡ 4 → every (i .list .count) (λ k. ltb (u16At s (p + 2 * k)) (c .locals)) ≡ entriesNamed s c i

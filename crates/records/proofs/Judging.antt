@@ -1,4 +1,4 @@
--- A good record's lists end within their sections, so the running places stay numbers of 16 bits; and what judging answers by its test.
+-- A good record's lists end within their sections, so the running places stay small; and what judging answers by its test.
 use mathlib.Core.Path.{_≡_, _∙_, sym, ap}
 use mathlib.Core.Bool.{Bool, true, false, not, cond, _&&_, _||_}
 use mathlib.Core.List.{List}

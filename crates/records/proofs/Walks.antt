@@ -1,7 +1,7 @@
 -- Walks over the records: what is ahead gives what the whole gives.
 use mathlib.Core.Path.{_≡_, _∙_, refl, sym, ap, ap₂}
 use mathlib.Core.Bool.{Bool, true, cond, _&&_}
-use mathlib.Core.List.{List}
+use mathlib.Core.List.{List, []}
 use Prim.Native.Nat.{ℕ, zero, suc, _+_, _*_, _-_, _≤_, _<_}
 use native.Mathlib.Numerals.{add-one}
 use native.Mathlib.Omega.{arith}
@@ -116,3 +116,12 @@ module _ {s : List ℕ} {c : Counts} {target : Walked} {k : ℕ} {r : Running} (
   passing-end h =
       let all : k ≡ 7 = omega (arith, w .within) in
       sym (ap (λ (n : ℕ). walkAll s c (drop n sections) r) all) ∙ w .ahead
+
+-- the last section's walk is what is left of the whole
+pub passing-last : {s : List ℕ} {c : Counts} {target : Walked} {r : Running} {w : Walked} → Passing s c target 6 r → w ≡ walkSection s c Ports r → w ≡ target
+unfolding walkAll
+passing-last {s} {c} {target} {r} {w} k e = go w ∙ ap (λ (o : Walked). onwards o (λ q. walkAll s c [] q)) e ∙ split k (omega arith)
+  where
+    go : (o : Walked) → o ≡ onwards o (λ q. walkAll s c [] q)
+    go (At p) = refl
+    go (Clean q) = refl

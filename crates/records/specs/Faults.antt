@@ -136,8 +136,11 @@ stepNamed c t =
     (eqb (t .a) 0 && ltb (t .b) (c .interfaces))
     (cond (eqb (t .tag) 7) (ltb (t .a) (c .layers) && orNone (c .interfaces) (t .b)) (eqb (t .b) 0)))
 
+abbrev pub stepFields : Counts → StepRecord → Bool
+stepFields c t = stepHas (stepOf (t .tag) (t .a) (t .b)) (t .ports .count) && stepNamed c t
+
 abbrev pub stepGood : Counts → Running → StepRecord → Bool
-stepGood c r t = stepHas (stepOf (t .tag) (t .a) (t .b)) (t .ports .count) && stepNamed c t && laid (r .ports) (c .ports) (t .ports)
+stepGood c r t = stepFields c t && laid (r .ports) (c .ports) (t .ports)
 
 -- kind 0..7, 6 Wire; b is 0 but for a wire
 abbrev pub portGood : Counts → PortRecord → Bool

@@ -1,4 +1,3 @@
-pub mod Arities
 pub mod Bytes
 pub mod Every
 pub mod Faults

@@ -6,11 +6,10 @@ ghost use lib.ListN.{length};
 ghost use Rattle.vir.specs.Header.{headerOf};
 ghost use Rattle.vir.specs.Interface.{kindOf};
 ghost use Rattle.vir.specs.Step.{stepOf};
-ghost use Rattle.records.specs.Arities.{fewestPorts, mostPorts};
 ghost use Rattle.records.specs.Bytes.{u16At};
 ghost use Rattle.records.specs.Every.{every};
 ghost use Rattle.records.specs.Layout.{refsAt, lengthOf};
-ghost use Rattle.records.specs.Faults.{orNone, typeNamed, flagsGood, laid, refsBelow, layerFields, layerGood, kindLists, closureAt, entriesNamed, interfaceFields, interfaceGood, headerHas, portsLaid, transferGood, stageNamed, stageLists, stageFields, stageGood, localGood, typeGood, stepHas, stepNamed, stepGood, portGood};
+ghost use Rattle.records.specs.Faults.{orNone, typeNamed, flagsGood, laid, refsBelow, layerFields, layerGood, kindLists, closureAt, entriesNamed, interfaceFields, interfaceGood, headerHas, portsLaid, transferGood, stageNamed, stageLists, stageFields, stageGood, localGood, typeGood, stepHas, stepFields, stepGood, portGood};
 use crate::bytes::u16_at;
 use crate::layout::Counts;
 use crate::record::InterfaceRecord;
@@ -27,6 +26,12 @@ use vir::header::Header;
 use vir::ids::Type;
 use vir::interface::FoundKind;
 use vir::interface::InterfaceKind;
+
+fn names(n: u16, i: u16) -> bool
+    ensures { λ r. ⌜ r ≡ ltb i n ⌝ }
+{
+    i < n
+}
 
 fn or_none(n: u16, i: u16) -> bool
     ensures { λ r. ⌜ r ≡ orNone n i ⌝ }
@@ -46,10 +51,10 @@ fn flags_good(f: u8) -> bool
     f < 16
 }
 
-fn laid(running: u16, total: u16, run: Run) -> bool
+fn laid(running: usize, total: u16, run: Run) -> bool
     ensures { λ r. ⌜ r ≡ laid running total run ⌝ }
 {
-    (run.first == running) & ((run.first as usize) + (run.count as usize) <= (total as usize))
+    (run.first as usize) == running && running + (run.count as usize) <= (total as usize)
 }
 
 // Whether each of the refs from a place on names one of n records.
@@ -95,91 +100,36 @@ pub fn port_good(c: Counts, p: PortRecord) -> bool
     (p.kind <= 7) & (p.b == 0)
 }
 
+// 1, 2, any, 3, any: to compare is quicker than to make the kind.
 fn kind_lists(kind: u8, count: u16) -> bool
     ensures { λ r. ⌜ r ≡ kindLists (kindOf kind) count ⌝ }
 {
-    match InterfaceKind::from_number(kind) {
-        FoundKind::Kind(k) => k.entries().allows(count),
-        FoundKind::Nothing => false,
+    if kind <= 1 {
+        return count == (kind as u16) + 1;
     }
+    if kind == 3 {
+        return count == 3;
+    }
+    (kind == 2) | (kind == 4)
 }
 
+// 0, 1, 1+, 1, 1+, 2, 0, any.
 fn header_has(tag: u8, count: u16) -> bool
     ensures { λ r. ⌜ r ≡ headerHas (headerOf tag) count ⌝ }
 {
-    match Header::from_number(tag) {
-        FoundHeader::Header(h) => h.ports().allows(count),
-        FoundHeader::Nothing => false,
+    if (tag == 0) | (tag == 6) {
+        return count == 0;
     }
-}
-
-// The fewest ports of a tag and the most, as `Step::ports` has them: to look them up is quicker than to make the step.
-fn fewest_ports(tag: u8) -> u16
-    ensures { λ r. ⌜ r ≡ fewestPorts tag ⌝ }
-{
-    match tag {
-        0 => 0,
-        1 => 1,
-        2 => 1,
-        3 => 1,
-        4 => 1,
-        5 => 2,
-        6 => 0,
-        7 => 0,
-        8 => 2,
-        9 => 1,
-        10 => 1,
-        11 => 1,
-        12 => 2,
-        13 => 2,
-        14 => 2,
-        15 => 3,
-        16 => 1,
-        17 => 1,
-        18 => 1,
-        19 => 2,
-        20 => 3,
-        _ => 1,
+    if (tag == 1) | (tag == 3) {
+        return count == 1;
     }
-}
-
-fn most_ports(tag: u8) -> u16
-    ensures { λ r. ⌜ r ≡ mostPorts tag ⌝ }
-{
-    match tag {
-        0 => 0,
-        1 => 1,
-        2 => 1,
-        3 => 1,
-        4 => 1,
-        5 => 2,
-        6 => 1,
-        7 => 1,
-        8 => 2,
-        9 => 65535,
-        10 => 1,
-        11 => 65535,
-        12 => 2,
-        13 => 2,
-        14 => 2,
-        15 => 3,
-        16 => 65535,
-        17 => 65535,
-        18 => 65535,
-        19 => 2,
-        20 => 3,
-        _ => 0,
+    if (tag == 2) | (tag == 4) {
+        return 1 <= count;
     }
-}
-
-// A Diverge without an interface has none.
-fn step_has(t: StepRecord) -> bool
-    ensures { λ r. ⌜ r ≡ stepHas (stepOf (t .tag) (t .a) (t .b)) (t .ports .count) ⌝ }
-{
-    let n = t.ports.count;
-    ((t.tag != 7) | (t.b != 65535) | (n == 0))
-        & (fewest_ports(t.tag) <= n)
-        & (n <= most_ports(t.tag))
+    if tag == 5 {
+        return count == 2;
+    }
+    tag == 7
 }
 
 fn layer_fields(c: Counts, r: Running, l: LayerRecord) -> bool
@@ -231,7 +181,13 @@ fn interface_fields(c: Counts, r: Running, i: InterfaceRecord) -> bool
     ensures { λ b. ⌜ b ≡ interfaceFields c r i ⌝ }
 {
     let list = i.list;
-    kind_lists(i.kind, i.list.count) & ((i.kind == 2) | (i.key == 0)) & laid(r.refs, c.refs, list)
+    if !kind_lists(i.kind, i.list.count) {
+        return false;
+    }
+    if !laid(r.refs, c.refs, list) {
+        return false;
+    }
+    (i.kind == 2) | (i.key == 0)
 }
 
 pub fn interface_good(s: &[u8], c: Counts, at: usize, r: Running, i: InterfaceRecord) -> bool
@@ -245,28 +201,35 @@ pub fn interface_good(s: &[u8], c: Counts, at: usize, r: Running, i: InterfaceRe
     entries_named(s, c, at + 2 * (i.list.first as usize), i)
 }
 
-fn ports_laid(running: u16, total: u16, run: Run, payload: u8) -> bool
+fn ports_laid(running: usize, total: u16, run: Run, payload: u8) -> bool
     ensures { λ b. ⌜ b ≡ portsLaid running total run payload ⌝ }
 {
-    (run.first == running)
-        & ((run.first as usize) + (run.count as usize) + (payload as usize) <= (total as usize))
+    (run.first as usize) == running
+        && running + (run.count as usize) + (payload as usize) <= (total as usize)
 }
 
 fn transfer_good(c: Counts, t: StageRecord) -> bool
     ensures { λ b. ⌜ b ≡ transferGood c t ⌝ }
 {
-    or_none(c.interfaces, t.transfer.0)
-        & (t.payload <= 1)
-        & ((t.payload == 0) | (t.transfer.0 != 65535))
+    if t.transfer.0 == 65535 {
+        return t.payload == 0;
+    }
+    (t.transfer.0 < c.interfaces) & (t.payload <= 1)
 }
 
 fn stage_named(c: Counts, t: StageRecord) -> bool
     ensures { λ b. ⌜ b ≡ stageNamed c t ⌝ }
 {
-    (t.interface.0 < c.interfaces)
-        & or_none(c.layers, t.layer.0)
-        & header_has(t.header, t.ports.count)
-        & transfer_good(c, t)
+    if !names(c.interfaces, t.interface.0) {
+        return false;
+    }
+    if !or_none(c.layers, t.layer.0) {
+        return false;
+    }
+    if !header_has(t.header, t.ports.count) {
+        return false;
+    }
+    transfer_good(c, t)
 }
 
 fn stage_lists(c: Counts, r: Running, t: StageRecord) -> bool
@@ -275,15 +238,22 @@ fn stage_lists(c: Counts, r: Running, t: StageRecord) -> bool
     let ports = t.ports;
     let steps = t.steps;
     let declarations = t.declarations;
-    ports_laid(r.ports, c.ports, ports, t.payload)
-        & laid(r.steps, c.steps, steps)
-        & laid(r.refs, c.refs, declarations)
+    if !ports_laid(r.ports, c.ports, ports, t.payload) {
+        return false;
+    }
+    if !laid(r.steps, c.steps, steps) {
+        return false;
+    }
+    laid(r.refs, c.refs, declarations)
 }
 
 fn stage_fields(c: Counts, r: Running, t: StageRecord) -> bool
     ensures { λ b. ⌜ b ≡ stageFields c r t ⌝ }
 {
-    stage_named(c, t) & stage_lists(c, r, t)
+    if !stage_named(c, t) {
+        return false;
+    }
+    stage_lists(c, r, t)
 }
 
 pub fn stage_good(s: &[u8], c: Counts, at: usize, r: Running, t: StageRecord) -> bool
@@ -302,22 +272,75 @@ pub fn stage_good(s: &[u8], c: Counts, at: usize, r: Running, t: StageRecord) ->
     )
 }
 
-fn step_named(c: Counts, t: StepRecord) -> bool
-    ensures { λ b. ⌜ b ≡ stepNamed c t ⌝ }
+// Ports 0, 1, 1, 1, 1, 2.
+fn invoke_good(c: Counts, t: StepRecord) -> bool
+    requires { ⌜ t .tag ≤ 5 ⌝ }
+    ensures { λ b. ⌜ b ≡ stepFields c t ⌝ }
 {
-    if t.tag <= 5 {
-        return t.b < c.locals;
-    }
-    if t.tag == 6 {
-        return (t.a == 0) & (t.b < c.interfaces);
-    }
-    if t.tag == 7 {
-        return (t.a < (c.layers as u32)) & or_none(c.interfaces, t.b);
-    }
-    t.b == 0
+    (t.ports.count == ((t.tag as u16) + 3) / 4) & (t.b < c.locals)
 }
 
-// The invocations are the most of the steps, and have as many ports as their fewest.
+fn transfer_step_good(c: Counts, t: StepRecord) -> bool
+    requires { ⌜ t .tag ≡ 6 ⌝ }
+    ensures { λ b. ⌜ b ≡ stepFields c t ⌝ }
+{
+    (t.ports.count <= 1) & ((t.a == 0) & (t.b < c.interfaces))
+}
+
+// Without an interface it has no port.
+fn diverge_good(c: Counts, t: StepRecord) -> bool
+    requires { ⌜ t .tag ≡ 7 ⌝ }
+    ensures { λ b. ⌜ b ≡ stepFields c t ⌝ }
+{
+    let n = t.ports.count;
+    (n <= 1)
+        & ((t.a < (c.layers as u32)) & or_none(c.interfaces, t.b))
+        & ((t.b != 65535) | (n == 0))
+}
+
+// 2, 1+, 1, 1+, 2, 2, 2, 3, 1+, 1+, 1+, 2, 3 from tag 8 on.
+fn other_has(tag: u8, count: u16) -> bool
+    requires { ⌜ 8 ≤ tag ⌝ }
+    requires { ⌜ tag ≤ 20 ⌝ }
+    ensures { λ r. ⌜ ((a b : ℕ) → r ≡ stepHas (stepOf tag a b) count) ⌝ }
+{
+    if (tag == 9) | (tag == 11) | ((16 <= tag) & (tag <= 18)) {
+        return 1 <= count;
+    }
+    if tag == 10 {
+        return count == 1;
+    }
+    if (tag == 15) | (tag == 20) {
+        return count == 3;
+    }
+    count == 2
+}
+
+fn other_good(t: StepRecord) -> bool
+    requires { ⌜ 8 ≤ t .tag ⌝ }
+    ensures { λ b. ⌜ ((c : Counts) → b ≡ stepFields c t) ⌝ }
+{
+    if 20 < t.tag {
+        return false;
+    }
+    (t.b == 0) & other_has(t.tag, t.ports.count)
+}
+
+fn step_fields(c: Counts, t: StepRecord) -> bool
+    ensures { λ b. ⌜ b ≡ stepFields c t ⌝ }
+{
+    if t.tag <= 5 {
+        return invoke_good(c, t);
+    }
+    if t.tag == 6 {
+        return transfer_step_good(c, t);
+    }
+    if t.tag == 7 {
+        return diverge_good(c, t);
+    }
+    other_good(t)
+}
+
 pub fn step_good(c: Counts, r: Running, t: StepRecord) -> bool
     ensures { λ b. ⌜ b ≡ stepGood c r t ⌝ }
 {
@@ -325,8 +348,5 @@ pub fn step_good(c: Counts, r: Running, t: StepRecord) -> bool
     if !laid(r.ports, c.ports, ports) {
         return false;
     }
-    if t.tag <= 5 {
-        return (t.ports.count == fewest_ports(t.tag)) & (t.b < c.locals);
-    }
-    step_has(t) & step_named(c, t)
+    step_fields(c, t)
 }

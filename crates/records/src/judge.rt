@@ -1,6 +1,5 @@
 // A record is judged by its rule, and says where the next lists start.
 ghost use mathlib.Core.Path.{_≡_};
-ghost use Prim.Native.Nat.{_≤_};
 ghost use Rattle.records.specs.Judge.{judgeLayer, judgeInterface, judgeStage, judgeLocal, judgeType, judgeStep, judgePort};
 ghost use Rattle.records.specs.Layout.{refsAt, Sized};
 use crate::faults::interface_good;
@@ -30,7 +29,7 @@ pub fn judge_layer(s: &[u8], c: Counts, at: usize, r: Running, l: LayerRecord) -
         return Judged::Fault;
     }
     Judged::Next(Running {
-        refs: r.refs + l.stages.count,
+        refs: r.refs + (l.stages.count as usize),
         steps: r.steps,
         ports: r.ports,
     })
@@ -45,7 +44,7 @@ pub fn judge_interface(s: &[u8], c: Counts, at: usize, r: Running, i: InterfaceR
         return Judged::Fault;
     }
     Judged::Next(Running {
-        refs: r.refs + i.list.count,
+        refs: r.refs + (i.list.count as usize),
         steps: r.steps,
         ports: r.ports,
     })
@@ -61,9 +60,9 @@ pub fn judge_stage(s: &[u8], c: Counts, at: usize, r: Running, t: StageRecord) -
     }
     let payload = t.payload;
     Judged::Next(Running {
-        refs: r.refs + t.declarations.count,
-        steps: r.steps + t.steps.count,
-        ports: r.ports + t.ports.count + (payload as u16),
+        refs: r.refs + (t.declarations.count as usize),
+        steps: r.steps + (t.steps.count as usize),
+        ports: r.ports + (t.ports.count as usize) + (payload as usize),
     })
 }
 
@@ -86,7 +85,6 @@ pub fn judge_type(r: Running, t: TypeRecord) -> Judged
 }
 
 pub fn judge_step(c: Counts, r: Running, t: StepRecord) -> Judged
-    requires { ⌜ c .ports ≤ 2560 ⌝ }
     ensures { λ j. ⌜ j ≡ judgeStep c r t ⌝ }
 {
     if !step_good(c, r, t) {
@@ -95,7 +93,7 @@ pub fn judge_step(c: Counts, r: Running, t: StepRecord) -> Judged
     Judged::Next(Running {
         refs: r.refs,
         steps: r.steps,
-        ports: r.ports + t.ports.count,
+        ports: r.ports + (t.ports.count as usize),
     })
 }
 

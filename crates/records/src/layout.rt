@@ -1,8 +1,8 @@
 // Where everything lies: the eight counts, their maxima, each section's start, and the size of its records.
 ghost use mathlib.Core.Path.{_≡_};
 ghost use Prim.Native.Nat.{_≤_};
-ghost use lib.ListN.{length, getD};
-ghost use Rattle.records.specs.Layout.{countsOf, interfacesAt, stagesAt, localsAt, typesAt, stepsAt, portsAt, refsAt, lengthOf, within, sections};
+ghost use lib.ListN.{length};
+ghost use Rattle.records.specs.Layout.{countsOf, interfacesAt, stagesAt, localsAt, typesAt, stepsAt, portsAt, refsAt, lengthOf, within};
 use crate::bytes::u16_at;
 
 pub const VERSION: u16 = 1;
@@ -126,22 +126,5 @@ impl Counts {
         ensures { λ r. ⌜ r ≡ lengthOf self ⌝ }
     {
         self.refs_at() + REF * (self.refs as usize)
-    }
-}
-
-impl Section {
-    pub fn nth(k: usize) -> Section
-        ensures { λ r. ⌜ r ≡ getD sections k Section.Ports ⌝ }
-    {
-        match k {
-            0 => Section::Layers,
-            1 => Section::Interfaces,
-            2 => Section::Stages,
-            3 => Section::Locals,
-            4 => Section::Types,
-            5 => Section::Steps,
-            6 => Section::Ports,
-            _ => Section::Ports,
-        }
     }
 }

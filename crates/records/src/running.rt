@@ -1,8 +1,8 @@
-// What the judging of records carries along and answers.
+// What the judging of records carries along and answers: machine words, since numbers of 16 bits would be packed and unpacked at each record.
 pub struct Running {
-    pub refs: u16,
-    pub steps: u16,
-    pub ports: u16,
+    pub refs: usize,
+    pub steps: usize,
+    pub ports: usize,
 }
 
 // A record breaks a rule, or this is where the next lists start.

@@ -205,41 +205,52 @@ fn pass_types(s: &[u8], c: Counts, from: Running) -> Walked
     walk_types(s, c, from)
 }
 
-fn walk_section(s: &[u8], c: Counts, at: usize, x: Section, from: Running) -> Walked
-    requires { ⌜ at ≡ refsAt c ⌝ }
-    requires { ⌜ Sized (now s) c ⌝ }
-    ensures { λ w. ⌜ w ≡ walkSection (now (s .entry)) c x from ⌝ }
-{
-    match x {
-        Section::Layers => walk_layers(s, c, at, from),
-        Section::Interfaces => walk_interfaces(s, c, at, from),
-        Section::Stages => walk_stages(s, c, at, from),
-        Section::Locals => walk_locals(s, c, from),
-        Section::Types => pass_types(s, c, from),
-        Section::Steps => walk_steps(s, c, from),
-        Section::Ports => walk_ports(s, c, from),
-    }
-}
-
+// Section after section, with no loop that would have to ask which it is in.
 pub fn walk(s: &[u8], c: Counts) -> Walked
     requires { ⌜ Sized (now s) c ⌝ }
     ensures { λ w. ⌜ w ≡ walkAll (now (s .entry)) c sections (record { refs = 0; steps = 0; ports = 0 }) ⌝ }
 {
     let at = c.refs_at();
-    let mut k = 0;
     let mut r = Running {
         refs: 0,
         steps: 0,
         ports: 0,
     };
-    while k < 7 {
-        match walk_section(s, c, at, Section::nth(k), r) {
-            Walked::At(p) => return Walked::At(p),
-            Walked::Clean(next) => {
-                r = next;
-            }
+    match walk_layers(s, c, at, r) {
+        Walked::At(p) => return Walked::At(p),
+        Walked::Clean(next) => {
+            r = next;
         }
-        k += 1;
     }
-    Walked::Clean(r)
+    match walk_interfaces(s, c, at, r) {
+        Walked::At(p) => return Walked::At(p),
+        Walked::Clean(next) => {
+            r = next;
+        }
+    }
+    match walk_stages(s, c, at, r) {
+        Walked::At(p) => return Walked::At(p),
+        Walked::Clean(next) => {
+            r = next;
+        }
+    }
+    match walk_locals(s, c, r) {
+        Walked::At(p) => return Walked::At(p),
+        Walked::Clean(next) => {
+            r = next;
+        }
+    }
+    match pass_types(s, c, r) {
+        Walked::At(p) => return Walked::At(p),
+        Walked::Clean(next) => {
+            r = next;
+        }
+    }
+    match walk_steps(s, c, r) {
+        Walked::At(p) => return Walked::At(p),
+        Walked::Clean(next) => {
+            r = next;
+        }
+    }
+    walk_ports(s, c, r)
 }

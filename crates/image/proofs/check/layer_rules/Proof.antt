@@ -55,19 +55,19 @@ module _ (c : tie.After-interfaces-lie) where
   lie : {x : Bool} → c .interfaces-lie .result ≡ x → interfacesLie (v (p (o k))) ≡ x
   lie e = sym (c .interfaces-lie .ensures) ∙ e
 
-module _ (c : tie.After-enter-all) where
+module _ (c : tie.After-jump-all) where
   abbrev i : tie.After-interfaces-lie
   i = c .before .before .before
 
   f : interfacesLie (v (p (o (k i)))) ≡ true
   f = lie i (not-false _ (c .before .before .if4 .left))
 
-  from-parent : {x : Bool} → c .enter-all .result ≡ x → enteredFromParent (v (p (o (k i)))) ≡ x
-  from-parent e = sym (c .enter-all .ensures .0) ∙ e
+  from-parent : {x : Bool} → c .jump-all .result .entered ≡ x → enteredFromParent (v (p (o (k i)))) ≡ x
+  from-parent e = sym (c .jump-all .ensures .0) ∙ e
 
 module _ (c : tie.After-entered-once) where
-  abbrev n : tie.After-enter-all
-  n = c .before .before .before
+  abbrev n : tie.After-jump-all
+  n = c .before .before .before .before
 
   g : enteredFromParent (v (p (o (k (i n))))) ≡ true
   g = from-parent n (not-false _ (c .before .before .if5 .left))
@@ -75,7 +75,7 @@ module _ (c : tie.After-entered-once) where
   entered-all : {x : Bool} → c .entered-once .result ≡ x → enteredOnce (v (p (o (k (i n))))) ≡ x
   entered-all e =
       let st = start (p (o (k (i n)))) in
-      entered-counted (st .args .s .now) (st .args .c) (st .pre .sized) _ (n .enter-all .ensures .1) ∙ sym (c .entered-once .ensures) ∙ e
+      entered-counted (st .args .s .now) (st .args .c) (st .pre .sized) _ (n .jump-all .ensures .1) ∙ sym (c .entered-once .ensures) ∙ e
 
 returns : tie.Need-returns
 returns c = rule-parents (v (c .before)) (parents (c .before) (not-true _ (c .if1 .taken)))
@@ -100,14 +100,14 @@ returns-4 c =
     let j = c .before in
     rule-lie (v (p (o (k j)))) (a (o (k j))) (b (k j)) (d j) (lie j (not-true _ (c .if4 .taken)))
 
-enter-all-requires : tie.Need-enter-all-requires
-enter-all-requires c κs =
+jump-all-requires : tie.Need-jump-all-requires
+jump-all-requires c κs =
     let j = c .before .before in
-    (start (p (o (k j))) .pre, lie j (not-false _ (c .before .if4 .left)))
+    (start (p (o (k j))) .pre, (lie j (not-false _ (c .before .if4 .left)), (a (o (k j)), (b (k j), d j))))
 
 returns-5 : tie.Need-returns-5
 returns-5 c =
-    let m = c .before in
+    let m = c .before .before in
     rule-parent (v (p (o (k (i m))))) (a (o (k (i m)))) (b (k (i m))) (d (i m)) (f m) (from-parent m (not-true _ (c .if5 .taken)))
 
 entered-once-requires : tie.Need-entered-once-requires
@@ -119,16 +119,11 @@ returns-6 c =
     rule-entered (v (p (o (k (i (n q)))))) (a (o (k (i (n q))))) (b (k (i (n q)))) (d (i (n q))) (f (n q)) (g q)
     (entered-all q (not-true _ (c .if6 .taken)))
 
-diverges-out-requires : tie.Need-diverges-out-requires
-diverges-out-requires c κs =
-    let j = i (n (c .before)) in
-    (start (p (o (k j))) .pre, (a (o (k j)), (b (k j), d j)))
-
 returns-7 : tie.Need-returns-7
 returns-7 c =
-    let q = c .before .before in
+    let q = c .before in
     rule-diverges (v (p (o (k (i (n q)))))) (a (o (k (i (n q))))) (b (k (i (n q)))) (d (i (n q))) (f (n q)) (g q)
-    (entered-all q (not-false _ (c .before .if6 .left))) (c .diverges-out .ensures)
+    (entered-all q (not-false _ (c .if6 .left))) (n q .jump-all .ensures .2)
 
 pub layer-rules-spec : {M : Type 1} → statement M
 layer-rules-spec =
@@ -142,9 +137,8 @@ layer-rules-spec =
     returns-3
     interfaces-lie-requires
     returns-4
-    enter-all-requires
+    jump-all-requires
     returns-5
     entered-once-requires
     returns-6
-    diverges-out-requires
     returns-7)

@@ -15,22 +15,10 @@ use Rattle.image.proofs.Passing.{pass-none, pass-one, count-none, count
 use Rattle.image.proofs.entering.enter_step.Statement.{statement}
 use Rattle.image.proofs.entering.enter_step.Tie as tie
 
-steps-at-requires : tie.Need-steps-at-requires
-steps-at-requires c κs = search needs
-
-mul-p : tie.Need-mul-p
-mul-p c = search needs
-
-add-p : tie.Need-add-p
-add-p c = search needs
-
 shared-slice-read-if1 : tie.Need-shared-slice-read-if1
 shared-slice-read-if1 c = search needs
 
-module _ (c : tie.After-steps-at) where
-  abbrev start : tie.Start
-  start = c .before .before
-
+module _ (start : tie.Start) where
   abbrev s : List ℕ
   s = start .args .s .now
 
@@ -44,14 +32,14 @@ module _ (c : tie.After-steps-at) where
   abbrev step : StepRecord
   step = stepAt s (stepsAt counts + 11 * k)
 
-  place : c .steps-at .result + 11 * k ≡ stepsAt counts + 11 * k
-  place = ap (λ (n : ℕ). n + 11 * k) (c .steps-at .ensures)
+  place : start .args .p ≡ stepsAt counts + 11 * k
+  place = start .pre .1 .1 .1
 
 returns : tie.Need-returns
 returns c =
-    let b = c .before .before in
+    let b = c .before .before .before in
     let none-entered = enters-none (s b) (counts b) (k b) (λ e. c .if1 .taken (ap (u8At (s b)) (place b) ∙ e)) in
-    (pass-none (enterable (viewOf (s b) (counts b)) (start b .args .l)) (start b .args .ok) none-entered, count-none (start b .args .counts .now) none-entered)
+    (pass-none (enterable (viewOf (s b) (counts b)) (b .args .l)) (b .args .ok) none-entered, count-none (b .args .counts .now) none-entered)
 
 add-u16-at : tie.Need-add-u16-at
 add-u16-at c = search needs
@@ -60,17 +48,17 @@ u16-at-requires : tie.Need-u16-at-requires
 u16-at-requires c κs = search needs
 
 module _ (c : tie.After-u16-at) where
-  abbrev steps-at : tie.After-steps-at
-  steps-at = c .before .before .before
+  abbrev begin : tie.Start
+  begin = c .before .before .before .before
 
-  transfers : step steps-at .tag ≡ 6
-  transfers = ap (u8At (s steps-at)) (sym (place steps-at)) ∙ c .before .if1 .left
+  transfers : step begin .tag ≡ 6
+  transfers = ap (u8At (s begin)) (sym (place begin)) ∙ c .before .if1 .left
 
-  b-is : c .u16-at .result ≡ step steps-at .b
-  b-is = c .u16-at .ensures ∙ ap (λ (p : ℕ). u16At (s steps-at) (p + 5)) (place steps-at)
+  b-is : c .u16-at .result ≡ step begin .b
+  b-is = c .u16-at .ensures ∙ ap (λ (p : ℕ). u16At (s begin) (p + 5)) (place begin)
 
-  below : step steps-at .b < counts steps-at .interfaces
-  below = start steps-at .pre .0 .steps (k steps-at) (start steps-at .pre .1 .1) .interface transfers
+  below : step begin .b < counts begin .interfaces
+  below = begin .pre .0 .steps (k begin) (begin .pre .1 .1 .0) .interface transfers
 
 interfaces-at-requires : tie.Need-interfaces-at-requires
 interfaces-at-requires c κs = search needs
@@ -85,43 +73,39 @@ add-u16-at-2 : tie.Need-add-u16-at-2
 add-u16-at-2 c = search needs
 
 u16-at-requires-2 : tie.Need-u16-at-requires-2
-u16-at-requires-2 c κs = omega (arith, below (c .before), b-is (c .before), start (steps-at (c .before)) .pre .0 .sized .long, c .interfaces-at .ensures)
+u16-at-requires-2 c κs = omega (arith, below (c .before), b-is (c .before), begin (c .before) .pre .0 .sized .long, c .interfaces-at .ensures)
 
 module _ (c : tie.After-u16-at2) where
   abbrev read-b : tie.After-u16-at
   read-b = c .before .before
 
-  abbrev at : tie.After-steps-at
-  at = steps-at read-b
+  abbrev at : tie.Start
+  at = begin read-b
 
   m-is : c .u16-at2 .result ≡ u16At (s at) (interfacesAt (counts at) + 9 * step at .b)
   m-is = c .u16-at2 .ensures ∙ ap₂ (λ (a b : ℕ). u16At (s at) (a + 9 * b)) (c .before .interfaces-at .ensures) (b-is read-b)
 
   m-below : c .u16-at2 .result < counts at .layers
-  m-below = omega (arith, m-is, interface-lies (s at) (counts at) (start at .pre .1 .0) (step at .b) (below read-b))
+  m-below = omega (arith, m-is, interface-lies (s at) (counts at) (at .pre .1 .0) (step at .b) (below read-b))
 
   entered : entersOf (viewOf (s at) (counts at)) (actionAt (s at) (counts at) (k at)) ≡ c .u16-at2 .result ∷ []
   entered = enters-one (s at) (counts at) (k at) (transfers read-b) (below read-b) ∙ ap {B = List ℕ} (λ (m : ℕ). m ∷ []) (sym m-is)
 
 enter-requires : tie.Need-enter-requires
-enter-requires c κs = (start (steps-at (c .before .before .before)) .pre .0 .sized, m-below (c .before))
+enter-requires c κs = (at (c .before) .pre .0 .sized, m-below (c .before))
 
 returns-2 : tie.Need-returns-2
 returns-2 c =
     let u = c .before .before in
-    let b = steps-at (u .before .before) in
-    let args = start b .args in (
-      pass-one (enterable (viewOf (s b) (counts b)) (args .l)) (args .ok) (entered u) (c .enter .ensures .0),
-      count-one (args .counts .now) (entered u) (c .enter .ensures .1),
+    let b = at u in (
+      pass-one (enterable (viewOf (s b) (counts b)) (b .args .l)) (b .args .ok) (entered u) (c .enter .ensures .0),
+      count-one (b .args .counts .now) (entered u) (c .enter .ensures .1),
     )
 
 pub enter-step-spec : {M : Type 1} → statement M
 enter-step-spec =
     tie.close
     (tie.spec
-    steps-at-requires
-    mul-p
-    add-p
     shared-slice-read-if1
     returns
     add-u16-at

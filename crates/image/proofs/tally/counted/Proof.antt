@@ -1,33 +1,24 @@
-use mathlib.Core.Path.{_≡_, sym}
-use mathlib.Core.Bool.{true}
-use Prim.Native.Nat.{_-_, _≤_}
+use mathlib.Core.Path.{_≡_, _∙_, refl, sym, ap}
+use Prim.Native.Nat.{ℕ, _-_, _≤_}
+use native.Mathlib.Omega.{arith}
 use borrow.Author.Needs.{needs}
-use borrow.Author.Tests.{not-true, not-false}
 use Rattle.records.specs.Every.{every}
 use Rattle.image.specs.Tally.{countedAt}
-use Rattle.records.proofs.Every.{every-zero, every-on, every-stop, every-end}
+use Rattle.records.proofs.Every.{every-zero, every-next}
 use Rattle.image.proofs.tally.counted.Statement.{statement}
 use Rattle.image.proofs.tally.counted.Tie as tie
 
 abbrev Inv-loop : tie.InvT-loop
-Inv-loop counts n most i₀ i = (i ≤ n) × (every i (countedAt counts most) ≡ true)
+Inv-loop counts n most m i₀ ok₀ i ok = (i ≤ n) × (ok ≡ every i (countedAt counts most))
 
 abbrev μ-loop : tie.MeasureT-loop
-μ-loop counts n most i₀ i = n - i
+μ-loop counts n most m i₀ ok₀ i ok = n - i
 
 loop-holds : tie.Need-loop-holds Inv-loop μ-loop
-loop-holds c = (search needs, every-zero _)
-
-cast-t : tie.Need-cast-t Inv-loop μ-loop
-cast-t c = search needs
+loop-holds c = (search needs, sym (every-zero _))
 
 element-copy-out-k : tie.Need-element-copy-out-k Inv-loop μ-loop
 element-copy-out-k c = search needs
-
-returns : tie.Need-returns Inv-loop μ-loop
-returns c =
-    let args = c .before .before .before .before .args in
-    sym (every-stop (countedAt (args .counts .now) (args .most)) (args .n) (c .before .before .before .loop .i) (search needs) (not-true _ (c .if1 .taken)))
 
 add-i : tie.Need-add-i Inv-loop μ-loop
 add-i c = search needs
@@ -37,25 +28,16 @@ loop-less c = search needs
 
 loop-again : tie.Need-loop-again Inv-loop μ-loop
 loop-again c =
-    let args = c .before .before .before .before .args in
-    (search needs, every-on (countedAt (args .counts .now) (args .most)) (c .before .before .before .loop .i) (c .before .before .before .loop .inv .1) (not-false _ (c .if1 .left)))
+    let loop = c .before .before .loop in
+    let args = c .before .before .before .args in
+    (omega (arith, c .before .loop-test .taken), every-next (countedAt (args .counts .now) (args .most)) (loop .i) (loop .inv .1) refl)
 
-returns-2 : tie.Need-returns-2 Inv-loop μ-loop
-returns-2 c =
+returns : tie.Need-returns Inv-loop μ-loop
+returns c =
+    let loop = c .before .loop in
     let args = c .before .before .args in
-    sym (every-end (countedAt (args .counts .now) (args .most)) (args .n) (c .before .loop .i) (search needs) (search needs) (c .before .loop .inv .1))
+    let all : loop .i ≡ args .n = omega (arith, loop .inv .0, c .loop-test .left) in
+    loop .inv .1 ∙ ap (λ (n : ℕ). every n (countedAt (args .counts .now) (args .most))) all
 
 pub counted-spec : {M : Type 1} → statement M
-counted-spec =
-    tie.close
-    (tie.spec
-    Inv-loop
-    μ-loop
-    loop-holds
-    cast-t
-    element-copy-out-k
-    returns
-    add-i
-    loop-less
-    loop-again
-    returns-2)
+counted-spec = tie.close (tie.spec Inv-loop μ-loop loop-holds element-copy-out-k add-i loop-less loop-again returns)

@@ -1,44 +1,33 @@
-use mathlib.Core.Path.{_∙_, sym, ap}
-use Rattle.vir.specs.declared.arity.Arity.{Arity}
-use Rattle.vir.specs.declared.header.FoundHeader.{FoundHeader}
-use Rattle.vir.specs.Arity.{allows}
-use Rattle.records.specs.Faults.{headerHas}
+use borrow.Author.Tests.{eq-eqb, ne-eqb}
+use Rattle.records.proofs.Asked.{header-asked}
 use borrow.Author.Needs.{needs}
 use Rattle.records.proofs.faults.header_has.Statement.{statement}
 use Rattle.records.proofs.faults.header_has.Tie as tie
 
-from-number-requires : tie.Need-from-number-requires
-from-number-requires c κs = search needs
-
-enum-known-h : tie.Need-enum-known-h
-enum-known-h c = search needs
-
-ports-requires : tie.Need-ports-requires
-ports-requires c κs = search needs
-
-allows-requires : tie.Need-allows-requires
-allows-requires c κs = search needs
-
-enum-told : tie.Need-enum-told
-enum-told c = search needs
-
 returns : tie.Need-returns
 returns c =
-    c .allows .ensures
-    ∙ ap (λ (a : Arity). allows a (c .before .before .before .before .before .before .args .count)) (c .before .ports .ensures)
-    ∙ sym (ap (λ (f : FoundHeader). headerHas f (c .before .before .before .before .before .before .args .count)) (sym (c .before .before .before .before .before .from-number .ensures) ∙ c .before .before .before .h .given .1))
+    let args = c .before .args in
+    header-asked (args .tag) (args .count) (simp (c .if1 .taken))
 
 returns-2 : tie.Need-returns-2
-returns-2 c = sym (ap (λ (f : FoundHeader). headerHas f (c .before .before .before .args .count)) (sym (c .before .before .from-number .ensures) ∙ c .enum-told .given .1))
+returns-2 c =
+    let args = c .before .before .args in
+    header-asked (args .tag) (args .count) (simp (c .before .if1 .left, c .if2 .taken))
+
+returns-3 : tie.Need-returns-3
+returns-3 c =
+    let args = c .before .before .before .args in
+    header-asked (args .tag) (args .count) (simp (c .before .before .if1 .left, c .before .if2 .left, c .if3 .taken))
+
+returns-4 : tie.Need-returns-4
+returns-4 c =
+    let args = c .before .before .before .before .args in
+    header-asked (args .tag) (args .count) (simp (c .before .before .before .if1 .left, c .before .before .if2 .left, c .before .if3 .left, eq-eqb _ _ (c .if4 .taken)))
+
+returns-5 : tie.Need-returns-5
+returns-5 c =
+    let args = c .before .before .before .before .args in
+    header-asked (args .tag) (args .count) (simp (c .before .before .before .if1 .left, c .before .before .if2 .left, c .before .if3 .left, ne-eqb _ _ (c .if4 .left)))
 
 pub header-has-spec : {M : Type 1} → statement M
-header-has-spec =
-    tie.close
-    (tie.spec
-    from-number-requires
-    enum-known-h
-    ports-requires
-    allows-requires
-    enum-told
-    returns
-    returns-2)
+header-has-spec = tie.close (tie.spec returns returns-2 returns-3 returns-4 returns-5)

@@ -1,12 +1,17 @@
+use Rattle.records.proofs.Fits.{transfer-none, transfer-some}
 use borrow.Author.Needs.{needs}
 use Rattle.records.proofs.faults.transfer_good.Statement.{statement}
 use Rattle.records.proofs.faults.transfer_good.Tie as tie
 
-or-none-requires : tie.Need-or-none-requires
-or-none-requires c κs = search needs
-
 returns : tie.Need-returns
-returns c = cc
+returns c =
+    let args = c .before .before .before .args in
+    transfer-none (args .c) (args .t) (c .before .if1 .taken)
+
+returns-2 : tie.Need-returns-2
+returns-2 c =
+    let args = c .before .before .before .before .before .args in
+    transfer-some (args .c) (args .t) (c .before .before .before .if1 .left)
 
 pub transfer-good-spec : {M : Type 1} → statement M
-transfer-good-spec = tie.close (tie.spec or-none-requires returns)
+transfer-good-spec = tie.close (tie.spec returns returns-2)

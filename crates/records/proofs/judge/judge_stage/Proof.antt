@@ -21,20 +21,29 @@ module _ (c : tie.Else1) where
       stage-next (start .args .s .now) (start .args .c) (start .args .r) (start .args .t)
       (guard-holds (stageGood (start .args .s .now) (start .args .c) (start .args .r) (start .args .t)) _ (c .before .stage-good .ensures) (c .if1 .left))
 
-add-t9 : tie.Need-add-t9
-add-t9 c = omega (arith, placed (c .before .before))
+cast-t9 : tie.Need-cast-t9
+cast-t9 c = search needs
 
 add-t10 : tie.Need-add-t10
-add-t10 c = omega (arith, placed (c .before .before .before .before))
+add-t10 c = omega (arith, placed (c .before .before))
 
-add-t11 : tie.Need-add-t11
-add-t11 c = omega (arith, placed (c .before .before .before .before .before .before))
+cast-t11 : tie.Need-cast-t11
+cast-t11 c = search needs
 
-cast-t12 : tie.Need-cast-t12
-cast-t12 c = omega (arith, placed (c .before .before .before .before .before .before))
+add-t12 : tie.Need-add-t12
+add-t12 c = omega (arith, placed (c .before .before .before .before))
 
-add-t13 : tie.Need-add-t13
-add-t13 c = omega (arith, placed (c .before .before .before .before .before .before))
+cast-t13 : tie.Need-cast-t13
+cast-t13 c = search needs
+
+add-t14 : tie.Need-add-t14
+add-t14 c = omega (arith, placed (c .before .before .before .before .before .before))
+
+cast-t15 : tie.Need-cast-t15
+cast-t15 c = omega (arith, placed (c .before .before .before .before .before .before))
+
+add-t16 : tie.Need-add-t16
+add-t16 c = omega (arith, placed (c .before .before .before .before .before .before))
 
 returns-2 : tie.Need-returns-2
 returns-2 c = judged-next (stageGood (c .before .before .before .before .before .before .before .before .before .args .s .now) (c .before .before .before .before .before .before .before .before .before .args .c) (c .before .before .before .before .before .before .before .before .before .args .r) (c .before .before .before .before .before .before .before .before .before .args .t)) _ _ (c .before .before .before .before .before .before .before .stage-good .ensures) (c .before .before .before .before .before .before .if1 .left)
@@ -42,4 +51,4 @@ returns-2 c = judged-next (stageGood (c .before .before .before .before .before 
 pub judge-stage-spec : {M : Type 1} → statement M
 judge-stage-spec =
     tie.close
-    (tie.spec stage-good-requires returns add-t9 add-t10 add-t11 cast-t12 add-t13 returns-2)
+    (tie.spec stage-good-requires returns cast-t9 add-t10 cast-t11 add-t12 cast-t13 add-t14 cast-t15 add-t16 returns-2)

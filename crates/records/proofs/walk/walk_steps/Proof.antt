@@ -23,7 +23,7 @@ read-requires : tie.Need-read-requires Inv-loop μ-loop
 read-requires c κs = walking-room (c .before .loop .inv) (c .loop-test .taken)
 
 judge-step-requires : tie.Need-judge-step-requires Inv-loop μ-loop
-judge-step-requires c κs = c .before .before .before .before .before .pre .ports
+judge-step-requires c κs = search needs
 
 module _ (c : tie.After-judge-step Inv-loop μ-loop) where
   abbrev at-loop : tie.At-loop Inv-loop μ-loop

@@ -11,8 +11,9 @@ use Rattle.records.specs.Bytes.{u16At}
 use Rattle.records.specs.Layout.{stagesAt}
 use Rattle.records.specs.Records.{runAt, stageAt}
 use Rattle.image.proofs.Diverging.{layer-read, stage-diverged}
-use Rattle.image.proofs.entering.diverge_stage.Statement.{statement}
-use Rattle.image.proofs.entering.diverge_stage.Tie as tie
+use Rattle.image.proofs.Entered.{stage-entered}
+use Rattle.image.proofs.entering.jump_stage.Statement.{statement}
+use Rattle.image.proofs.entering.jump_stage.Tie as tie
 
 stages-at-requires : tie.Need-stages-at-requires
 stages-at-requires c κs = search needs
@@ -59,21 +60,27 @@ module _ (c : tie.After-read) where
   steps-are = c .read .ensures ∙ ap (λ (p : ℕ). runAt s (p + 30 * t + 21)) (c .before .before .stages-at .ensures)
 
   fit : Inside (c .read .result) (counts .steps)
-  fit = subst (λ (run : Run). Inside run (counts .steps)) (sym steps-are) (start .pre .0 .stages t (start .pre .1 .1 .0) .steps-fit)
+  fit = subst (λ (run : Run). Inside run (counts .steps)) (sym steps-are) (start .pre .0 .stages t (start .pre .1 .1 .1 .0) .steps-fit)
 
-diverge-run-requires : tie.Need-diverge-run-requires
-diverge-run-requires c κs =
-    let pre = start c .pre in
-    let below : c .before .u16-at .result < counts c .layers = omega (arith, layer-is c, layer-read (s c) (counts c) (t c) (pre .1 .1 .0), pre .1 .1 .1) in
-    (pre .0, (pre .1 .0, (below, fit c)))
+jump-run-requires : tie.Need-jump-run-requires
+jump-run-requires c κs =
+    let r = c .before in
+    let pre = start r .pre in
+    let below : r .before .u16-at .result < counts r .layers =
+    omega (arith, layer-is r, layer-read (s r) (counts r) (t r) (pre .1 .1 .1 .0), pre .1 .1 .1 .1) in
+    (pre .0, (pre .1 .0, (pre .1 .1 .0, (below, fit r))))
 
 returns : tie.Need-returns
 returns c =
-    let r = c .before in
-    stage-diverged (s r) (counts r) (t r) (start r .pre .1 .1 .0) (start r .args .ok) (layer-is r) (steps-are r) (c .diverge-run .ensures)
+    let r = c .before .before in
+    let here = start r .pre .1 .1 .1 .0 in
+    let before = start r .args .before in
+    let found = c .jump-run .ensures in
+    let entered = stage-entered (s r) (counts r) (t r) here (before .entered) (start r .args .counts .now) (layer-is r) (steps-are r) (found .0, found .1) in
+    (entered .0, entered .1, stage-diverged (s r) (counts r) (t r) here (before .out) (layer-is r) (steps-are r) (found .2))
 
-pub diverge-stage-spec : {M : Type 1} → statement M
-diverge-stage-spec =
+pub jump-stage-spec : {M : Type 1} → statement M
+jump-stage-spec =
     tie.close
     (tie.spec
     stages-at-requires
@@ -83,5 +90,5 @@ diverge-stage-spec =
     u16-at-requires
     add-read
     read-requires
-    diverge-run-requires
+    jump-run-requires
     returns)
