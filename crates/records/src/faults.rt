@@ -9,7 +9,7 @@ ghost use Rattle.vir.specs.Step.{stepOf};
 ghost use Rattle.records.specs.Bytes.{u16At};
 ghost use Rattle.records.specs.Every.{every};
 ghost use Rattle.records.specs.Layout.{refsAt, lengthOf};
-ghost use Rattle.records.specs.Faults.{orNone, typeNamed, flagsGood, laid, refsBelow, layerFields, layerGood, kindLists, closureAt, entriesNamed, interfaceFields, interfaceGood, headerHas, portsLaid, transferGood, stageNamed, stageLists, stageFields, stageGood, localGood, typeGood, stepHas, stepFields, stepGood, portGood};
+ghost use Rattle.records.specs.Faults.{orNone, typeNamed, flagsGood, laid, layerFields, layerGood, kindLists, closureAt, entriesNamed, interfaceFields, interfaceGood, headerHas, portsLaid, transferGood, stageNamed, stageLists, stageFields, stageGood, localGood, typeGood, stepHas, stepFields, stepGood, portGood};
 use crate::bytes::u16_at;
 use crate::layout::Counts;
 use crate::record::InterfaceRecord;
@@ -21,11 +21,7 @@ use crate::record::StageRecord;
 use crate::record::StepRecord;
 use crate::record::TypeRecord;
 use crate::running::Running;
-use vir::header::FoundHeader;
-use vir::header::Header;
 use vir::ids::Type;
-use vir::interface::FoundKind;
-use vir::interface::InterfaceKind;
 
 fn names(n: u16, i: u16) -> bool
     ensures { λ r. ⌜ r ≡ ltb i n ⌝ }

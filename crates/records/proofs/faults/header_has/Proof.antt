@@ -1,6 +1,5 @@
 use borrow.Author.Tests.{eq-eqb, ne-eqb}
 use Rattle.records.proofs.Asked.{header-asked}
-use borrow.Author.Needs.{needs}
 use Rattle.records.proofs.faults.header_has.Statement.{statement}
 use Rattle.records.proofs.faults.header_has.Tie as tie
 

@@ -1,6 +1,5 @@
 use borrow.Author.Tests.{eq-eqb, ne-eqb}
 use Rattle.records.proofs.Asked.{other-asked}
-use borrow.Author.Needs.{needs}
 use Rattle.records.proofs.faults.other_has.Statement.{statement}
 use Rattle.records.proofs.faults.other_has.Tie as tie
 

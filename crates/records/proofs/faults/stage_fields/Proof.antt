@@ -1,4 +1,3 @@
-use mathlib.Core.Bool.{and-true, and-false}
 use Rattle.records.proofs.Guards.{guard-fails, guard-holds}
 use borrow.Author.Needs.{needs}
 use Rattle.records.proofs.faults.stage_fields.Statement.{statement}

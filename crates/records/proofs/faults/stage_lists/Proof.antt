@@ -1,4 +1,4 @@
-use mathlib.Core.Bool.{and-true, and-false}
+use mathlib.Core.Bool.{and-false}
 use Rattle.records.proofs.Guards.{guard-fails, guard-holds}
 use borrow.Author.Needs.{needs}
 use Rattle.records.proofs.faults.stage_lists.Statement.{statement}

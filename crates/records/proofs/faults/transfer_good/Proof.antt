@@ -1,5 +1,4 @@
 use Rattle.records.proofs.Fits.{transfer-none, transfer-some}
-use borrow.Author.Needs.{needs}
 use Rattle.records.proofs.faults.transfer_good.Statement.{statement}
 use Rattle.records.proofs.faults.transfer_good.Tie as tie
 

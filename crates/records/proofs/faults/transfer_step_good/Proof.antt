@@ -1,5 +1,4 @@
 use Rattle.records.proofs.Asked.{step-transfers}
-use borrow.Author.Needs.{needs}
 use Rattle.records.proofs.faults.transfer_step_good.Statement.{statement}
 use Rattle.records.proofs.faults.transfer_step_good.Tie as tie
 
