@@ -1,3 +1,5 @@
+use mathlib.Core.Path.{ap₂}
+use mathlib.Core.Bool.{_&&_}
 use borrow.Author.Needs.{needs}
 use Rattle.records.proofs.faults.layer_fields.Statement.{statement}
 use Rattle.records.proofs.faults.layer_fields.Tie as tie
@@ -9,7 +11,7 @@ laid-requires : tie.Need-laid-requires
 laid-requires c κs = search needs
 
 returns : tie.Need-returns
-returns c = cc
+returns c = ap₂ _&&_ (c .before .or-none .ensures) (c .laid .ensures)
 
 pub layer-fields-spec : {M : Type 1} → statement M
 layer-fields-spec = tie.close (tie.spec or-none-requires laid-requires returns)

@@ -1,3 +1,5 @@
+use mathlib.Core.Path.{ap₂}
+use mathlib.Core.Bool.{_&&_}
 use borrow.Author.Needs.{needs}
 use Rattle.records.proofs.faults.local_good.Statement.{statement}
 use Rattle.records.proofs.faults.local_good.Tie as tie
@@ -9,7 +11,7 @@ flags-good-requires : tie.Need-flags-good-requires
 flags-good-requires c κs = search needs
 
 returns : tie.Need-returns
-returns c = cc
+returns c = ap₂ _&&_ (c .before .type-named .ensures) (c .flags-good .ensures)
 
 pub local-good-spec : {M : Type 1} → statement M
 local-good-spec = tie.close (tie.spec type-named-requires flags-good-requires returns)

@@ -18,7 +18,7 @@ shared-slice-read-t10 : tie.Need-shared-slice-read-t10
 shared-slice-read-t10 c = search needs
 
 returns : tie.Need-returns
-returns c = cc
+returns c = simp (c .before .u16-at .ensures, c .before .before .u32-at .ensures)
 
 pub read-spec : {M : Type 1} → statement M
 read-spec =

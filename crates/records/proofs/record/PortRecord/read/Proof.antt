@@ -24,7 +24,7 @@ u16-at-requires-2 : tie.Need-u16-at-requires-2
 u16-at-requires-2 c κs = search needs
 
 returns : tie.Need-returns
-returns c = cc
+returns c = simp (c .u16-at2 .ensures, c .before .u32-at .ensures, c .before .before .before .u16-at .ensures)
 
 pub read-spec : {M : Type 1} → statement M
 read-spec =

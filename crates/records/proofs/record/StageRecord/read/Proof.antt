@@ -66,7 +66,7 @@ shared-slice-read-t29 : tie.Need-shared-slice-read-t29
 shared-slice-read-t29 c = search needs
 
 returns : tie.Need-returns
-returns c = cc
+returns c = simp (c .before .u16-at4 .ensures, c .before .before .u16-at3 .ensures, c .before .before .before .read3 .ensures, c .before .before .before .before .read2 .ensures, c .before .before .before .before .before .read .ensures, c .before .before .before .before .before .before .u32-at2 .ensures, c .before .before .before .before .before .before .before .before .u16-at2 .ensures, c .before .before .before .before .before .before .before .before .before .u16-at .ensures, c .before .before .before .before .before .before .before .before .before .before .u32-at .ensures)
 
 pub read-spec : {M : Type 1} → statement M
 read-spec =

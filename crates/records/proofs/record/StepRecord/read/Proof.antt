@@ -24,7 +24,7 @@ read-requires : tie.Need-read-requires
 read-requires c κs = search needs
 
 returns : tie.Need-returns
-returns c = cc
+returns c = simp (c .read .ensures, c .before .u16-at .ensures, c .before .before .u32-at .ensures)
 
 pub read-spec : {M : Type 1} → statement M
 read-spec =
