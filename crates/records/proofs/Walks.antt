@@ -1,7 +1,6 @@
 -- Walks over the records: what is ahead gives what the whole gives.
-use mathlib.Core.Path.{_≡_, _∙_, refl, sym, ap, ap₂}
-use mathlib.Core.Bool.{Bool, true, cond, _&&_}
-use mathlib.Core.List.{List, []}
+use mathlib.Core.Path.{_≡_, _∙_, refl, sym, ap}
+use mathlib.Core.List.{List}
 use Prim.Native.Nat.{ℕ, zero, suc, _+_, _*_, _-_, _≤_, _<_}
 use native.Mathlib.Numerals.{add-one}
 use native.Mathlib.Omega.{arith}
@@ -15,12 +14,8 @@ use Rattle.records.specs.declared.running.Judged.{Judged}
 use Rattle.records.specs.declared.running.Judged.the-variants.{Fault, Next}
 use Rattle.records.specs.declared.running.Walked.{Walked}
 use Rattle.records.specs.declared.running.Walked.the-variants.{At, Clean}
-use Rattle.records.specs.Bytes.{u8At}
-use Rattle.records.specs.Every.{every}
-use Rattle.records.specs.Faults.{flagsGood}
 use Rattle.records.specs.Judge.{judge, after, walk, walkSection, onwards, walkAll}
-use Rattle.records.specs.Layout.{typesAt, typeSize, sections, sizeOf, countOf, startOf, Sized}
-use Rattle.records.proofs.Every.{every-at}
+use Rattle.records.specs.Layout.{sections, sizeOf, countOf, startOf, Sized}
 
 -- every section ends within the bytes
 section-room : (s : List ℕ) (c : Counts) (x : Section) → Sized s c → startOf c x + sizeOf x * countOf c x ≤ length s
@@ -63,27 +58,13 @@ module _ {s : List ℕ} {c : Counts} {x : Section} {target : Walked} where
             ∙ sym (ap (λ (j : Judged). after p j (λ y. walk (judge x s c) (sizeOf x) n (p + sizeOf x) y)) e) ∙ w .ahead;
       }
 
+  pub walking-next : {left p size : ℕ} {r q : Running} → size ≡ sizeOf x → Walking s c x target left p r → (left ≡ 0 → ⊥) → judge x s c p r ≡ Next q
+      → Walking s c x target (left - 1) (p + size) q
+  walking-next z w h e = rw z (walking-on w h e)
+
   pub walking-end : {left p : ℕ} {r : Running} → Walking s c x target left p r → left ≡ 0 → Clean r ≡ target
   unfolding walk
   walking-end {left} {p} {r} w h = sym (ap (λ (k : ℕ). walk (judge x s c) (sizeOf x) k p r) h) ∙ w .ahead
-
--- types whose bytes are all good are passed
-types-pass : (s : List ℕ) (c : Counts) (n p : ℕ) (r : Running) → ((k : ℕ) → k < 2 * n → flagsGood (u8At s (p + k)) ≡ true)
-    → Clean r ≡ walk (judge Types s c) typeSize n p r
-unfolding walk
-types-pass s c zero p r h = refl
-types-pass s c (suc n) p r h =
-    let first : flagsGood (u8At s p) ≡ true = ap (λ (q : ℕ). flagsGood (u8At s q)) (omega arith) ∙ h 0 (omega arith) in
-    types-pass s c n (p + typeSize) r
-    (λ k l. ap (λ (q : ℕ). flagsGood (u8At s q)) (omega arith) ∙ h (2 + k) (omega arith))
-    ∙ sym
-    (ap₂ (λ (a b : Bool). after p (cond (a && b) (Next r) Fault) (λ q. walk (judge Types s c) typeSize n (p + typeSize) q)) first
-    (h 1 (omega arith)))
-
-pub types-passed : (s : List ℕ) (c : Counts) (r : Running) → every (2 * c .types) (λ k. flagsGood (u8At s (typesAt c + k))) ≡ true
-    → Clean r ≡ walkSection s c Types r
-types-passed s c r h =
-    types-pass s c (c .types) (typesAt c) r (λ k l. every-at (λ k. flagsGood (u8At s (typesAt c + k))) (2 * c .types) k h l)
 
 -- the sections from the k-th on
 pub record Passing (s : List ℕ) (c : Counts) (target : Walked) (k : ℕ) (r : Running) : Type 0 where
@@ -116,12 +97,3 @@ module _ {s : List ℕ} {c : Counts} {target : Walked} {k : ℕ} {r : Running} (
   passing-end h =
       let all : k ≡ 7 = omega (arith, w .within) in
       sym (ap (λ (n : ℕ). walkAll s c (drop n sections) r) all) ∙ w .ahead
-
--- the last section's walk is what is left of the whole
-pub passing-last : {s : List ℕ} {c : Counts} {target : Walked} {r : Running} {w : Walked} → Passing s c target 6 r → w ≡ walkSection s c Ports r → w ≡ target
-unfolding walkAll
-passing-last {s} {c} {target} {r} {w} k e = go w ∙ ap (λ (o : Walked). onwards o (λ q. walkAll s c [] q)) e ∙ split k (omega arith)
-  where
-    go : (o : Walked) → o ≡ onwards o (λ q. walkAll s c [] q)
-    go (At p) = refl
-    go (Clean q) = refl

@@ -54,7 +54,7 @@ fn laid(running: usize, total: u16, run: Run) -> bool
 }
 
 // Whether each of the refs from a place on names one of n records.
-fn refs_below(s: &[u8], at: usize, count: u16, n: u16) -> bool
+pub fn refs_below(s: &[u8], at: usize, count: u16, n: u16) -> bool
     requires { ⌜ at + 2 * count ≤ length (now s) ⌝ }
     ensures { λ r. ⌜ r ≡ every count (λ k. ltb (u16At (now (s .entry)) (at + 2 * k)) n) ⌝ }
 {
@@ -97,7 +97,7 @@ pub fn port_good(c: Counts, p: PortRecord) -> bool
 }
 
 // 1, 2, any, 3, any: to compare is quicker than to make the kind.
-fn kind_lists(kind: u8, count: u16) -> bool
+pub fn kind_lists(kind: u8, count: u16) -> bool
     ensures { λ r. ⌜ r ≡ kindLists (kindOf kind) count ⌝ }
 {
     if kind <= 1 {
@@ -110,7 +110,7 @@ fn kind_lists(kind: u8, count: u16) -> bool
 }
 
 // 0, 1, 1+, 1, 1+, 2, 0, any.
-fn header_has(tag: u8, count: u16) -> bool
+pub fn header_has(tag: u8, count: u16) -> bool
     ensures { λ r. ⌜ r ≡ headerHas (headerOf tag) count ⌝ }
 {
     if (tag == 0) | (tag == 6) {
@@ -284,7 +284,7 @@ fn transfer_step_good(c: Counts, t: StepRecord) -> bool
 }
 
 // Without an interface it has no port.
-fn diverge_good(c: Counts, t: StepRecord) -> bool
+pub fn diverge_good(c: Counts, t: StepRecord) -> bool
     requires { ⌜ t .tag ≡ 7 ⌝ }
     ensures { λ b. ⌜ b ≡ stepFields c t ⌝ }
 {

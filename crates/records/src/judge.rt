@@ -1,7 +1,9 @@
 // A record is judged by its rule, and says where the next lists start.
 ghost use mathlib.Core.Path.{_≡_};
-ghost use Rattle.records.specs.Judge.{judgeLayer, judgeInterface, judgeStage, judgeLocal, judgeType, judgeStep, judgePort};
-ghost use Rattle.records.specs.Layout.{refsAt, Sized};
+ghost use Prim.Native.Nat.{_+_, _≤_};
+ghost use lib.ListN.{length};
+ghost use Rattle.records.specs.Judge.{judgeLayer, judgeInterface, judgeStage, judgeLocal, judgeType, judgeStep, judgePort, judge};
+ghost use Rattle.records.specs.Layout.{refsAt, sizeOf, Sized};
 use crate::faults::interface_good;
 use crate::faults::layer_good;
 use crate::faults::local_good;
@@ -10,6 +12,7 @@ use crate::faults::stage_good;
 use crate::faults::step_good;
 use crate::faults::type_good;
 use crate::layout::Counts;
+use crate::layout::Section;
 use crate::record::InterfaceRecord;
 use crate::record::LayerRecord;
 use crate::record::LocalRecord;
@@ -20,7 +23,7 @@ use crate::record::TypeRecord;
 use crate::running::Judged;
 use crate::running::Running;
 
-pub fn judge_layer(s: &[u8], c: Counts, at: usize, r: Running, l: LayerRecord) -> Judged
+fn judge_layer(s: &[u8], c: Counts, at: usize, r: Running, l: LayerRecord) -> Judged
     requires { ⌜ at ≡ refsAt c ⌝ }
     requires { ⌜ Sized (now s) c ⌝ }
     ensures { λ j. ⌜ j ≡ judgeLayer (now (s .entry)) c r l ⌝ }
@@ -35,7 +38,7 @@ pub fn judge_layer(s: &[u8], c: Counts, at: usize, r: Running, l: LayerRecord) -
     })
 }
 
-pub fn judge_interface(s: &[u8], c: Counts, at: usize, r: Running, i: InterfaceRecord) -> Judged
+fn judge_interface(s: &[u8], c: Counts, at: usize, r: Running, i: InterfaceRecord) -> Judged
     requires { ⌜ at ≡ refsAt c ⌝ }
     requires { ⌜ Sized (now s) c ⌝ }
     ensures { λ j. ⌜ j ≡ judgeInterface (now (s .entry)) c r i ⌝ }
@@ -50,7 +53,7 @@ pub fn judge_interface(s: &[u8], c: Counts, at: usize, r: Running, i: InterfaceR
     })
 }
 
-pub fn judge_stage(s: &[u8], c: Counts, at: usize, r: Running, t: StageRecord) -> Judged
+fn judge_stage(s: &[u8], c: Counts, at: usize, r: Running, t: StageRecord) -> Judged
     requires { ⌜ at ≡ refsAt c ⌝ }
     requires { ⌜ Sized (now s) c ⌝ }
     ensures { λ j. ⌜ j ≡ judgeStage (now (s .entry)) c r t ⌝ }
@@ -66,7 +69,7 @@ pub fn judge_stage(s: &[u8], c: Counts, at: usize, r: Running, t: StageRecord) -
     })
 }
 
-pub fn judge_local(c: Counts, r: Running, l: LocalRecord) -> Judged
+fn judge_local(c: Counts, r: Running, l: LocalRecord) -> Judged
     ensures { λ j. ⌜ j ≡ judgeLocal c r l ⌝ }
 {
     if !local_good(c, l) {
@@ -75,7 +78,7 @@ pub fn judge_local(c: Counts, r: Running, l: LocalRecord) -> Judged
     Judged::Next(r)
 }
 
-pub fn judge_type(r: Running, t: TypeRecord) -> Judged
+fn judge_type(r: Running, t: TypeRecord) -> Judged
     ensures { λ j. ⌜ j ≡ judgeType r t ⌝ }
 {
     if !type_good(t) {
@@ -84,7 +87,7 @@ pub fn judge_type(r: Running, t: TypeRecord) -> Judged
     Judged::Next(r)
 }
 
-pub fn judge_step(c: Counts, r: Running, t: StepRecord) -> Judged
+fn judge_step(c: Counts, r: Running, t: StepRecord) -> Judged
     ensures { λ j. ⌜ j ≡ judgeStep c r t ⌝ }
 {
     if !step_good(c, r, t) {
@@ -97,11 +100,29 @@ pub fn judge_step(c: Counts, r: Running, t: StepRecord) -> Judged
     })
 }
 
-pub fn judge_port(c: Counts, r: Running, p: PortRecord) -> Judged
+fn judge_port(c: Counts, r: Running, p: PortRecord) -> Judged
     ensures { λ j. ⌜ j ≡ judgePort c r p ⌝ }
 {
     if !port_good(c, p) {
         return Judged::Fault;
     }
     Judged::Next(r)
+}
+
+// The record of a section at a place.
+pub fn judge(x: Section, s: &[u8], c: Counts, at: usize, p: usize, r: Running) -> Judged
+    requires { ⌜ at ≡ refsAt c ⌝ }
+    requires { ⌜ Sized (now s) c ⌝ }
+    requires { ⌜ p + sizeOf x ≤ length (now s) ⌝ }
+    ensures { λ j. ⌜ j ≡ judge x (now (s .entry)) c p r ⌝ }
+{
+    match x {
+        Section::Layers => judge_layer(s, c, at, r, LayerRecord::read(s, p)),
+        Section::Interfaces => judge_interface(s, c, at, r, InterfaceRecord::read(s, p)),
+        Section::Stages => judge_stage(s, c, at, r, StageRecord::read(s, p)),
+        Section::Locals => judge_local(c, r, LocalRecord::read(s, p)),
+        Section::Types => judge_type(r, TypeRecord::read(s, p)),
+        Section::Steps => judge_step(c, r, StepRecord::read(s, p)),
+        Section::Ports => judge_port(c, r, PortRecord::read(s, p)),
+    }
 }

@@ -1,8 +1,8 @@
 // Where everything lies: the eight counts, their maxima, each section's start, and the size of its records.
 ghost use mathlib.Core.Path.{_≡_};
 ghost use Prim.Native.Nat.{_≤_};
-ghost use lib.ListN.{length};
-ghost use Rattle.records.specs.Layout.{countsOf, interfacesAt, stagesAt, localsAt, typesAt, stepsAt, portsAt, refsAt, lengthOf, within};
+ghost use lib.ListN.{length, getD};
+ghost use Rattle.records.specs.Layout.{countsOf, interfacesAt, stagesAt, localsAt, typesAt, stepsAt, portsAt, refsAt, lengthOf, within, sections, sizeOf, countOf, startOf};
 use crate::bytes::u16_at;
 
 pub const VERSION: u16 = 1;
@@ -126,5 +126,64 @@ impl Counts {
         ensures { λ r. ⌜ r ≡ lengthOf self ⌝ }
     {
         self.refs_at() + REF * (self.refs as usize)
+    }
+}
+
+impl Section {
+    pub fn size(self) -> usize
+        ensures { λ r. ⌜ r ≡ sizeOf self ⌝ }
+    {
+        match self {
+            Section::Layers => LAYER,
+            Section::Interfaces => INTERFACE,
+            Section::Stages => STAGE,
+            Section::Locals => LOCAL,
+            Section::Types => TYPE,
+            Section::Steps => STEP,
+            Section::Ports => PORT,
+        }
+    }
+
+    pub fn count(self, c: Counts) -> usize
+        ensures { λ r. ⌜ r ≡ countOf c self ⌝ }
+    {
+        match self {
+            Section::Layers => c.layers as usize,
+            Section::Interfaces => c.interfaces as usize,
+            Section::Stages => c.stages as usize,
+            Section::Locals => c.locals as usize,
+            Section::Types => c.types as usize,
+            Section::Steps => c.steps as usize,
+            Section::Ports => c.ports as usize,
+        }
+    }
+
+    pub fn start(self, c: Counts) -> usize
+        ensures { λ r. ⌜ r ≡ startOf c self ⌝ }
+    {
+        match self {
+            Section::Layers => HEAD,
+            Section::Interfaces => c.interfaces_at(),
+            Section::Stages => c.stages_at(),
+            Section::Locals => c.locals_at(),
+            Section::Types => c.types_at(),
+            Section::Steps => c.steps_at(),
+            Section::Ports => c.ports_at(),
+        }
+    }
+
+    pub fn nth(k: usize) -> Section
+        ensures { λ r. ⌜ r ≡ getD sections k Section.Ports ⌝ }
+    {
+        match k {
+            0 => Section::Layers,
+            1 => Section::Interfaces,
+            2 => Section::Stages,
+            3 => Section::Locals,
+            4 => Section::Types,
+            5 => Section::Steps,
+            6 => Section::Ports,
+            _ => Section::Ports,
+        }
     }
 }
