@@ -7,8 +7,9 @@ use std::{
 };
 
 use crate::{
-    check::{Answer, FLAT, check},
+    check::{Answer, check},
     generate::{self, Family, Rng, deepest, largest},
+    image::{MAXIMA, SIZES, port},
     samples::SAMPLES,
 };
 
@@ -51,8 +52,14 @@ struct Row {
     asked_to_reading: Spread,
 }
 
-/// Accepted images of both kinds, from 104 bytes to the most that there can be.
+/// Accepted images of both kinds, from 104 bytes to the most that there can be; and one that is refused for its last record.
 pub fn subjects() -> Vec<Subject> {
+    let mut all = accepted();
+    all.push(subject("largest flat, refused", refused()));
+    all
+}
+
+fn accepted() -> Vec<Subject> {
     let samples = SAMPLES.iter().filter(|(name, _)| ["example", "loop"].contains(name));
     let mut all: Vec<Subject> = samples.map(|(name, make)| subject(name, make().encode())).collect();
     all.push(about(Family::FlatSmall, 500));
@@ -66,6 +73,19 @@ pub fn subjects() -> Vec<Subject> {
     all.push(subject("largest", largest(&mut Rng::new(0), true).encode()));
     all.sort_by_key(|subject| subject.bytes.len());
     all
+}
+
+/// The largest flat image, with a kind that no port has in its last.
+fn refused() -> Vec<u8> {
+    let mut bytes = largest(&mut Rng::new(0), false).encode();
+    let last = last_port(bytes.len());
+    bytes[last + 2] = port::ERROR + 1;
+    bytes
+}
+
+/// Where the last port stands: as many refs as there can be follow it.
+fn last_port(length: usize) -> usize {
+    length - MAXIMA[7] * SIZES[7] - SIZES[6]
 }
 
 fn subject(name: &str, bytes: Vec<u8>) -> Subject {
@@ -92,7 +112,7 @@ fn folded(Answer { code, place, kind }: Answer) -> u64 {
 pub fn table(subjects: &[Subject], asked: Check, rounds: usize) -> String {
     let mut text = HEAD.to_string();
     for Subject { name, bytes } in subjects {
-        let kind = if check(bytes).kind == FLAT { "flat" } else { "layered" };
+        let kind = ["refused", "flat", "layered"][check(bytes).kind as usize];
         let Row { asked, own, reading, own_to_asked, asked_to_reading } = row(bytes, asked, rounds);
         text += &format!("| {name} | {} | {kind} | {asked:.0} | {own:.0} | {reading:.0} ", bytes.len());
         text += &format!("| {own_to_asked} | {asked_to_reading} |\n");
@@ -181,10 +201,12 @@ mod tests {
     }
 
     #[test]
-    fn the_subjects_are_accepted_and_go_from_the_example_to_the_largest() {
-        let all = subjects();
+    fn the_subjects_go_from_the_example_to_the_largest_and_the_last_port_refuses_one() {
+        let all = accepted();
         assert!(all.iter().all(|subject| check(&subject.bytes).code == 0));
         assert_eq!((all[0].bytes.len(), all[all.len() - 1].bytes.len()), (104, LARGEST));
+        let image = refused();
+        assert_eq!(check(&image), Answer { code: 6, place: last_port(image.len()) as u32, kind: 0 });
     }
 
     #[test]
