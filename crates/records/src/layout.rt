@@ -68,31 +68,15 @@ impl Counts {
     pub fn within(self) -> bool
         ensures { λ r. ⌜ r ≡ within self ⌝ }
     {
-        if self.interfaces == 0 {
-            return false;
-        }
-        if 64 < self.layers {
-            return false;
-        }
-        if 256 < self.interfaces {
-            return false;
-        }
-        if 256 < self.stages {
-            return false;
-        }
-        if 256 < self.locals {
-            return false;
-        }
-        if 1024 < self.types {
-            return false;
-        }
-        if 2048 < self.steps {
-            return false;
-        }
-        if 2560 < self.ports {
-            return false;
-        }
-        self.refs <= 2048
+        (self.interfaces != 0)
+            & (self.layers <= 64)
+            & (self.interfaces <= 256)
+            & (self.stages <= 256)
+            & (self.locals <= 256)
+            & (self.types <= 1024)
+            & (self.steps <= 2048)
+            & (self.ports <= 2560)
+            & (self.refs <= 2048)
     }
 
     pub fn interfaces_at(self) -> usize
