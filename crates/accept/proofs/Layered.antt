@@ -1,8 +1,8 @@
 -- Layers one after the other: each is judged good, lies behind its parent and lists its own stages, and the stages are counted.
 use mathlib.Core.Path.{_≡_, _∙_, refl, sym, ap, subst}
 use mathlib.Core.Bool.{Bool, true, false, cond, _||_}
-use mathlib.Core.List.{List, [], _∷_}
-use Prim.Native.Nat.{ℕ, zero, suc, _+_, _*_, _-_, _<_, _≤_}
+use mathlib.Core.List.{List, []}
+use Prim.Native.Nat.{ℕ, _+_, _*_, _-_, _<_, _≤_}
 use native.Mathlib.Omega.{arith}
 use lib.Dec.{eqb, ltb}
 use lib.ListN.{length}
@@ -22,20 +22,13 @@ use Rattle.records.proofs.Every.{every-zero, every-on, every-at, every-end}
 use Rattle.records.proofs.Walks.{Walking, walking-start, walking-on, walking-end}
 use Rattle.image.specs.Kind.{all, concat, present}
 use Rattle.image.specs.Tally.{tally, fieldIs}
-use Rattle.image.specs.View.{collect, refsFrom, viewOf}
-use Rattle.image.specs.Vir.{Layer, Stage, layerOf, stageOf}
+use Rattle.image.specs.View.{refsFrom, viewOf}
+use Rattle.image.specs.Vir.{Layer, layerOf, stageOf}
 use Rattle.image.proofs.Fields.{parent-at}
+use Rattle.image.proofs.Listing.{present-whole, field-layer}
 use Rattle.image.proofs.Owning.{all-named, Owning, owning-start, owning-on, owning-end}
-use Rattle.image.proofs.Viewing.{length-layers, layer-at, stage-at}
+use Rattle.image.proofs.Viewing.{length-layers, layer-at}
 use Rattle.accept.specs.Passing.{ran, LayersPass}
-
--- a list in which nothing is none is listed whole
-present-whole : (e : ℕ → ℕ) (k n : ℕ) → ((j : ℕ) → k ≤ j → j < k + n → e j ≡ none → ⊥) → present (collect e k n) ≡ collect e k n
-unfolding present collect
-present-whole e k zero h = refl
-present-whole e k (suc n) h =
-    ap (λ (b : Bool). cond b (present (collect e (suc k) n)) (e k ∷ present (collect e (suc k) n))) (ne-eqb (e k) none (h k (omega arith) (omega arith)))
-    ∙ ap (λ (l : List ℕ). e k ∷ l) (present-whole e (suc k) n (λ j a b. h j (omega arith) (omega arith)))
 
 -- a parent's test, and a layer's
 abbrev pub under : ℕ → ℕ → Bool
@@ -82,10 +75,6 @@ module _ (s : List ℕ) (c : Counts) (z : Sized s c) (l p : ℕ) (h : l < c .lay
       present-whole (λ k. u16At s (refsAt c + 2 * k)) (run .first) (run .count) (λ j x y n. omega (arith, stages-named j x y, z .stages))
       ∙ ap (refsFrom s c) q ∙ ap (λ (n : ℕ). refsFrom s c (layerAt s n .stages)) e ∙ sym (ap (λ (x : Layer). x .stages) (layer-at s c l h))
 
-  -- the layer field of a stage
-  field-layer : (t : ℕ) → t < c .stages → fieldIs s c 6 l t ≡ eqb (stageOf (viewOf s c) t .layer) l
-  field-layer t k = sym (ap (λ (x : Stage). eqb (x .layer) l) (stage-at s c t k))
-
   pub layer-told : (before : List ℕ) {after : List ℕ} → under (layerAt s p .parent .0) l ≡ true → all (fieldIs s c 6 l) (present (refsFrom s c run)) ≡ true
       → after ≡ tally (present (refsFrom s c run)) before → Passes s c before after l p
   layer-told before parent own counted = (
@@ -93,7 +82,7 @@ module _ (s : List ℕ) (c : Counts) (z : Sized s c) (l p : ℕ) (h : l < c .lay
     subst (λ (x : Run). refsBelow s c x (c .stages) ≡ true) q b,
     sym
         (all-named (fieldIs s c 6 l) (λ t. eqb (stageOf (viewOf s c) t .layer) l) (λ k. u16At s (refsAt c + 2 * k)) (c .stages) (run .first) (run .count)
-        (λ j x y n. stages-named j x y) field-layer
+        (λ j x y n. stages-named j x y) (field-layer s c l)
         ∙ ap (all (λ t. eqb (stageOf (viewOf s c) t .layer) l)) layer-list)
         ∙ own,
     counted ∙ ap (λ (x : List ℕ). tally x before) layer-list,

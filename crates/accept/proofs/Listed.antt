@@ -1,17 +1,13 @@
 -- What an interface lists, in the view and in the bytes, where its list passes.
-use mathlib.Core.Path.{_≡_, _∙_, refl, sym, ap, ap₂, subst}
-use mathlib.Core.Bool.{Bool, true, false, _&&_, _||_, or-true, true≢false}
+use mathlib.Core.Path.{_≡_, _∙_, refl, sym, ap, ap₂}
+use mathlib.Core.Bool.{Bool, true, false, _&&_, _||_, or-true}
 use mathlib.Core.List.{List, []}
-use Prim.Native.Nat.{ℕ, zero, suc, _+_, _*_, _<_}
-use native.Mathlib.Nat.{le-of-suc-le-suc, not-suc-le-zero}
+use Prim.Native.Nat.{ℕ, _+_, _*_, _<_}
 use native.Mathlib.Omega.{arith}
-use lib.Dec.{eqb, ltb, leb}
-use lib.ListN.{List·getD-eq-default}
-use borrow.Author.Tests.{eqb-true, eqb-false, eq-eqb, lt-ltb, leb-true, leb-false}
-use Rattle.vir.specs.declared.interface.FoundKind.{FoundKind}
-use Rattle.vir.specs.declared.interface.FoundKind.the-variants.{Nothing as NoKind}
+use lib.Dec.{eqb, ltb}
+use borrow.Author.Tests.{eqb-false, eq-eqb, lt-ltb}
 use Rattle.vir.specs.Ids.{none}
-use Rattle.vir.specs.Interface.{kinds, kindOf}
+use Rattle.vir.specs.Interface.{kindOf}
 use Rattle.records.specs.declared.layout.Counts.{Counts}
 use Rattle.records.specs.declared.record.InterfaceRecord.{InterfaceRecord}
 use Rattle.records.specs.Bytes.{u16At}
@@ -19,41 +15,17 @@ use Rattle.records.specs.Every.{every}
 use Rattle.records.specs.Faults.{orNone, listAt, kindLists, closureAt, entriesNamed}
 use Rattle.records.specs.Layout.{refsAt, interfacesAt}
 use Rattle.records.specs.Records.{interfaceAt}
-use Rattle.records.proofs.Fits.{entries-inspect, entries-closure, entries-stages}
+use Rattle.records.proofs.Fits.{three-listed, entries-inspect, entries-closure, entries-stages}
 use Rattle.image.specs.Accepted.{NamedOrNone, entryAt}
 use Rattle.image.specs.Kind.{all, present, stagesIn, stagesOf}
 use Rattle.image.specs.Tally.{tally, fieldIs}
 use Rattle.image.specs.View.{kindIn, refsFrom, interfaceOfRecord, viewOf}
-use Rattle.image.specs.Vir.{Stage, interfaceOf, stageOf}
+use Rattle.image.specs.Vir.{interfaceOf, stageOf}
+use Rattle.image.proofs.Accepting.{kind-known}
+use Rattle.image.proofs.Listing.{kind-lists, field-interface}
 use Rattle.image.proofs.Owning.{all-named, entries-named}
-use Rattle.image.proofs.Viewing.{interface-at, stage-at}
+use Rattle.image.proofs.Viewing.{interface-at}
 use Rattle.accept.proofs.Entries.{Listed}
-
--- a kind that lists so many is one of the five
-kind-known : (k n : ℕ) → kindLists (kindOf k) n ≡ true → k < 5
-unfolding kindOf
-kind-known k n h = go (leb 5 k) refl
-  where
-    go : (b : Bool) → leb 5 k ≡ b → k < 5
-    go true e =
-        let z : true ≡ false = sym h ∙ ap (λ (f : FoundKind). kindLists f n) (List·getD-eq-default kinds NoKind {n = k} (leb-true 5 k e)) in
-        absurd (true≢false z)
-    go false e = leb-false 5 k e
-
-kind-lists : (k : ℕ) (l : List ℕ) → k < 5 → (k ≡ 4 → ⊥) → stagesIn (kindIn (kindOf k)) l ≡ present l
-unfolding kindOf
-kind-lists zero l h n = refl
-kind-lists (suc zero) l h n = refl
-kind-lists (suc (suc zero)) l h n = refl
-kind-lists (suc (suc (suc zero))) l h n = refl
-kind-lists (suc (suc (suc (suc zero)))) l h n = absurd (n refl)
-kind-lists (suc (suc (suc (suc (suc k))))) l h n =
-    absurd (not-suc-le-zero (le-of-suc-le-suc (le-of-suc-le-suc (le-of-suc-le-suc (le-of-suc-le-suc (le-of-suc-le-suc h))))))
-
--- a Closure lists three
-pub closure-three : (k n : ℕ) → kindLists (kindOf k) n ≡ true → k ≡ 3 → n ≡ 3
-unfolding kindOf
-closure-three k n h e = eqb-true n 3 (subst (λ (x : ℕ). kindLists (kindOf x) n ≡ true) e h)
 
 or-none : (n i : ℕ) → NamedOrNone i n → orNone n i ≡ true
 or-none n i h = go (eqb i none) refl
@@ -92,10 +64,6 @@ module _ (s : List ℕ) (c : Counts) (p i : ℕ) where
     lists-present : (here .kind ≡ 4 → ⊥) → stagesOf (interfaceOf (viewOf s c) i) ≡ present (refsFrom s c (here .list))
     lists-present n = ap stagesOf viewed ∙ kind-lists (here .kind) (refsFrom s c (here .list)) (kind-known (here .kind) (here .list .count) lists) n
 
-    -- the interface field of a stage
-    field-interface : (t : ℕ) → t < c .stages → fieldIs s c 4 i t ≡ owned t
-    field-interface t k = sym (ap (λ (x : Stage). eqb (x .interface) i) (stage-at s c t k))
-
     module _ (n : here .kind ≡ 4 → ⊥) where
       own-all : ((k : ℕ) → k < here .list .count → NamedOrNone (entryAt s c (here .list) k) (c .stages))
           → all (fieldIs s c 4 i) (present (refsFrom s c (here .list))) ≡ true → all owned (stagesOf (interfaceOf (viewOf s c) i)) ≡ true
@@ -103,7 +71,7 @@ module _ (s : List ℕ) (c : Counts) (p i : ℕ) where
           ap (all owned) (lists-present n)
           ∙ sym
           (all-named (fieldIs s c 4 i) owned (λ k. u16At s (refsAt c + 2 * k)) (c .stages) (here .list .first) (here .list .count)
-          (entries-named s c (here .list) (c .stages) named) field-interface)
+          (entries-named s c (here .list) (c .stages) named) (field-interface s c i))
           ∙ own
 
       counted : (counts : List ℕ) {after : List ℕ} → after ≡ tally (present (refsFrom s c (here .list))) counts
@@ -127,7 +95,7 @@ module _ (s : List ℕ) (c : Counts) (p i : ℕ) where
       pub closure-passes : {after : List ℕ} → here .kind ≡ 3 → here .key ≡ 0 → u16At s (listAt c (here .list)) < c .stages
           → Listed s c 4 i true counts (here .list) after → Passes counts after
       closure-passes k z b l =
-          let three : here .list .count ≡ 3 = closure-three (here .kind) (here .list .count) lists k in
+          let three : here .list .count ≡ 3 = three-listed (here .kind) (here .list .count) lists k in
           let other : here .kind ≡ 4 → ⊥ = λ (e : here .kind ≡ 4). omega (arith, e, k) in
           let entries : closureAt s (listAt c (here .list)) (c .stages) ≡ true =
           ap₂ _&&_

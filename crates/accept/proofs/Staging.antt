@@ -1,8 +1,8 @@
 -- A stage that passes is good where the places behind it are within their sections; and the stages up to one.
-use mathlib.Core.Path.{_≡_, _∙_, refl, sym, ap, ap₂}
+use mathlib.Core.Path.{_≡_, _∙_, sym, ap, ap₂}
 use mathlib.Core.Bool.{Bool, true, cond, _&&_}
 use mathlib.Core.List.{List}
-use Prim.Native.Nat.{ℕ, zero, suc, _+_, _*_, _-_, _≤_, _<_}
+use Prim.Native.Nat.{ℕ, _+_, _*_, _-_, _≤_, _<_}
 use native.Mathlib.Omega.{arith}
 use lib.Dec.{eqb, ltb}
 use lib.ListN.{length}
@@ -22,15 +22,9 @@ use Rattle.records.specs.Faults.{orNone, listAt, refsBelow, headerHas, transfer
 use Rattle.records.specs.Judge.{judge, walkSection}
 use Rattle.records.specs.Layout.{stagesAt, refsAt, stageSize, Sized}
 use Rattle.records.specs.Records.{stageAt}
-use Rattle.records.proofs.Every.{every-zero, every-on, every-end}
+use Rattle.records.proofs.Every.{every-zero, every-on, every-end, every-from}
 use Rattle.accept.specs.Passing.{Within, ran, bare}
 use Rattle.accept.proofs.Going.{Going, going-start, going-room, going-on, going-end}
-
--- what passes at each number below another passes at every one
-pub every-all : (f : ℕ → Bool) (n : ℕ) → ((k : ℕ) → k < n → f k ≡ true) → every n f ≡ true
-unfolding every
-every-all f zero h = refl
-every-all f (suc n) h = ap₂ _&&_ (every-all f n (λ k l. h k (omega arith))) (h n (omega arith))
 
 -- the four names of a stage
 pub all-named : (c : Counts) (t : StageRecord) → t .interface .0 < c .interfaces → orNone (c .layers) (t .layer .0) ≡ true
@@ -44,7 +38,7 @@ Named s c from = (k : ℕ) → from ≤ k → k < c .refs → u16At s (refsAt c 
 refs-named : (s : List ℕ) (c : Counts) (run : Run) {from : ℕ} → Named s c from → from ≤ run .first → run .first + run .count ≤ c .refs
     → refsBelow s c run (c .locals) ≡ true
 refs-named s c run h f e =
-    every-all (λ k. ltb (u16At s (listAt c run + 2 * k)) (c .locals)) (run .count)
+    every-from (λ k. ltb (u16At s (listAt c run + 2 * k)) (c .locals)) (run .count)
     (λ k l.
     let same : listAt c run + 2 * k ≡ refsAt c + 2 * (run .first + k) = omega arith in
     let below : u16At s (refsAt c + 2 * (run .first + k)) < c .locals = h (run .first + k) (omega arith) (omega arith) in

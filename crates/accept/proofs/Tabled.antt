@@ -1,13 +1,13 @@
 -- A step that keeps within its tag's entries of the tables is good.
-use mathlib.Core.Path.{_≡_, refl, sym, ap, ap₂, subst}
-use mathlib.Core.Bool.{Bool, true, false, _&&_}
+use mathlib.Core.Path.{_≡_, refl, ap, ap₂}
+use mathlib.Core.Bool.{true, _&&_}
 use mathlib.Core.List.{List}
-use Prim.Native.Nat.{ℕ, zero, suc, _+_, _≤_, _<_}
+use Prim.Native.Nat.{ℕ, _+_, _≤_, _<_}
 use native.Mathlib.Nat.{not-suc-le-zero}
 use native.Mathlib.Omega.{arith}
 use lib.Dec.{eqb, leb, ltb}
 use lib.ListN.{getD}
-use borrow.Author.Tests.{eq-eqb, eqb-true, eqb-false, lt-ltb, le-leb, leb-true}
+use borrow.Author.Tests.{eq-eqb, lt-ltb, le-leb, leb-true}
 use Rattle.vir.specs.Step.{stepOf}
 use Rattle.records.specs.declared.layout.Counts.{Counts}
 use Rattle.records.specs.declared.record.Run.{Run}
@@ -16,21 +16,9 @@ use Rattle.records.specs.Bytes.{u8At, u16At, u32At}
 use Rattle.records.specs.Every.{every}
 use Rattle.records.specs.Faults.{stepHas, stepNamed, stepFields}
 use Rattle.records.specs.Records.{stepAt}
+use Rattle.records.proofs.Asked.{Each, each-at}
 use Rattle.records.proofs.Every.{every-at}
 use Rattle.accept.specs.Tables.{leastPorts, mostPorts, limitOf, reachOf}
-
--- what holds at each of the first m numbers
-abbrev Each : (ℕ → Type 0) → ℕ → Type 0
-Each P zero = Unit
-Each P (suc m) = Each P m × P m
-
-each-at : (P : ℕ → Type 0) (m : ℕ) → Each P m → (k : ℕ) → k < m → P k
-each-at P zero e k h = absurd (not-suc-le-zero h)
-each-at P (suc m) e k h = go (eqb k m) refl (λ (l : k < m). each-at P m (e .0) k l)
-  where
-    go : (b : Bool) → eqb k m ≡ b → (k < m → P k) → P k
-    go true q r = subst P (sym (eqb-true k m q)) (e .1)
-    go false q r = let apart : k ≡ m → ⊥ = eqb-false k m q in r (omega arith)
 
 module _ (c : Counts) (a b : ℕ) where
   abbrev Counted : ℕ → ℕ → Type 0

@@ -1,8 +1,8 @@
 -- From what the passes found out to the answer.
-use mathlib.Core.Path.{_≡_, _∙_, refl, sym, ap, ap₂}
-use mathlib.Core.Bool.{Bool, true, cond, _&&_}
+use mathlib.Core.Path.{_≡_, _∙_, refl, sym, ap}
+use mathlib.Core.Bool.{true, _&&_}
 use mathlib.Core.List.{List, [], _∷_}
-use Prim.Native.Nat.{ℕ, _+_, _*_, _<_}
+use Prim.Native.Nat.{ℕ}
 use native.Mathlib.Omega.{arith}
 use lib.Dec.{eqb}
 use lib.ListN.{length}
@@ -10,14 +10,13 @@ use borrow.Author.Tests.{eq-eqb}
 use Rattle.vir.specs.Ids.{none}
 use Rattle.records.specs.declared.layout.Counts.{Counts}
 use Rattle.records.specs.declared.layout.Section.{Section}
-use Rattle.records.specs.declared.layout.Section.the-variants.{Layers, Interfaces, Stages, Locals, Types, Steps, Ports}
+use Rattle.records.specs.declared.layout.Section.the-variants.{Layers, Stages, Locals, Types, Steps, Ports}
 use Rattle.records.specs.declared.running.Running.{Running}
 use Rattle.records.specs.declared.running.Walked.{Walked}
 use Rattle.records.specs.declared.running.Walked.the-variants.{Clean}
-use Rattle.records.specs.Bytes.{u16At}
 use Rattle.records.specs.Every.{every}
 use Rattle.records.specs.Judge.{judge, walk, walkSection, onwards, walkAll}
-use Rattle.records.specs.Layout.{layersAt, layerSize, stagesAt, stageSize, sections}
+use Rattle.records.specs.Layout.{layersAt, layerSize, sections}
 use Rattle.records.proofs.Every.{every-cong}
 use Rattle.image.specs.declared.answer.Answer.{Answer}
 use Rattle.image.specs.Check.{owned, kindAnswer, recordAnswer}

@@ -77,7 +77,7 @@ known test table other n refused h = go (leb (length table) n) refl
         absurd (true≢false z)
     go false e = leb-false (length table) n e
 
-kind-known : (n m : ℕ) → kindLists (kindOf n) m ≡ true → n < 5
+pub kind-known : (n m : ℕ) → kindLists (kindOf n) m ≡ true → n < 5
 unfolding kindOf
 kind-known n m = known (λ f. kindLists f m) kinds NoKind n refl
 

@@ -23,7 +23,7 @@ use Rattle.image.specs.Vir.{Layer, Stage, layerOf, interfaceOf, stageOf}
 use Rattle.image.proofs.Owning.{all-named, entries-named}
 use Rattle.image.proofs.Viewing.{layer-at, interface-at, stage-at}
 
-kind-lists : (k : ℕ) (l : List ℕ) → k < 5 → (k ≡ 4 → ⊥) → stagesIn (kindIn (kindOf k)) l ≡ present l
+pub kind-lists : (k : ℕ) (l : List ℕ) → k < 5 → (k ≡ 4 → ⊥) → stagesIn (kindIn (kindOf k)) l ≡ present l
 unfolding kindOf
 kind-lists zero l h n = refl
 kind-lists (suc zero) l h n = refl
@@ -32,6 +32,13 @@ kind-lists (suc (suc (suc zero))) l h n = refl
 kind-lists (suc (suc (suc (suc zero)))) l h n = absurd (n refl)
 kind-lists (suc (suc (suc (suc (suc k))))) l h n =
     absurd (not-suc-le-zero (le-of-suc-le-suc (le-of-suc-le-suc (le-of-suc-le-suc (le-of-suc-le-suc (le-of-suc-le-suc h))))))
+
+-- the interface field of a stage, and its layer field
+pub field-interface : (s : List ℕ) (c : Counts) (i t : ℕ) → t < c .stages → fieldIs s c 4 i t ≡ eqb (stageOf (viewOf s c) t .interface) i
+field-interface s c i t k = sym (ap (λ (x : Stage). eqb (x .interface) i) (stage-at s c t k))
+
+pub field-layer : (s : List ℕ) (c : Counts) (l t : ℕ) → t < c .stages → fieldIs s c 6 l t ≡ eqb (stageOf (viewOf s c) t .layer) l
+field-layer s c l t k = sym (ap (λ (x : Stage). eqb (x .layer) l) (stage-at s c t k))
 
 module _ (s : List ℕ) (c : Counts) (a : Accepted s c) (i : ℕ) (h : i < c .interfaces) where
   abbrev here : InterfaceRecord
@@ -45,16 +52,12 @@ module _ (s : List ℕ) (c : Counts) (a : Accepted s c) (i : ℕ) (h : i < c .in
   lists-present : (here .kind ≡ 4 → ⊥) → stagesOf (interfaceOf (viewOf s c) i) ≡ present (refsFrom s c (here .list))
   lists-present n = ap stagesOf (interface-at s c i h) ∙ kind-lists (here .kind) (refsFrom s c (here .list)) (a .interfaces i h .kind) n
 
-  -- the interface field of a stage
-  field-interface : (t : ℕ) → t < c .stages → fieldIs s c 4 i t ≡ eqb (stageOf (viewOf s c) t .interface) i
-  field-interface t k = sym (ap (λ (x : Stage). eqb (x .interface) i) (stage-at s c t k))
-
   own-all : (here .kind ≡ 4 → ⊥)
       → all (fieldIs s c 4 i) (present (refsFrom s c (here .list)))
       ≡ all (λ t. eqb (stageOf (viewOf s c) t .interface) i) (stagesOf (interfaceOf (viewOf s c) i))
   own-all n =
       all-named (fieldIs s c 4 i) (λ t. eqb (stageOf (viewOf s c) t .interface) i) (λ k. u16At s (refsAt c + 2 * k)) (c .stages) (here .list .first)
-      (here .list .count) (entries-named s c (here .list) (c .stages) (a .interfaces i h .stages n)) field-interface
+      (here .list .count) (entries-named s c (here .list) (c .stages) (a .interfaces i h .stages n)) (field-interface s c i)
       ∙ sym (ap (all (λ t. eqb (stageOf (viewOf s c) t .interface) i)) (lists-present n))
 
   -- what one interface adds, as the code has it: an Inspect nothing, another its list
@@ -75,7 +78,7 @@ module _ (s : List ℕ) (c : Counts) (a : Accepted s c) (i : ℕ) (h : i < c .in
       (ap (λ (b : Bool). ok && b) (p ∙ own-all n), q ∙ sym (ap (λ (l : List ℕ). tally l counts) (lists-present n)))
 
 -- a list in which nothing is none is listed whole
-present-whole : (e : ℕ → ℕ) (k n : ℕ) → ((j : ℕ) → k ≤ j → j < k + n → e j ≡ none → ⊥) → present (collect e k n) ≡ collect e k n
+pub present-whole : (e : ℕ → ℕ) (k n : ℕ) → ((j : ℕ) → k ≤ j → j < k + n → e j ≡ none → ⊥) → present (collect e k n) ≡ collect e k n
 unfolding present collect
 present-whole e k zero h = refl
 present-whole e k (suc n) h =
@@ -97,10 +100,6 @@ module _ (s : List ℕ) (c : Counts) (a : Accepted s c) (l : ℕ) (h : l < c .la
       (λ j p q e. omega (arith, stages-named j p q, a .sized .stages))
       ∙ sym (ap (λ (x : Layer). x .stages) (layer-at s c l h))
 
-  -- the layer field of a stage
-  field-layer : (t : ℕ) → t < c .stages → fieldIs s c 6 l t ≡ eqb (stageOf (viewOf s c) t .layer) l
-  field-layer t k = sym (ap (λ (x : Stage). eqb (x .layer) l) (stage-at s c t k))
-
   pub layer-adds : (ok : Bool) (counts : List ℕ) {r : Bool} {after : List ℕ}
       → r ≡ all (fieldIs s c 6 l) (present (refsFrom s c (there .stages))) → after ≡ tally (present (refsFrom s c (there .stages))) counts
       → ((ok && r) ≡ (ok && all (λ t. eqb (stageOf (viewOf s c) t .layer) l) (layerOf (viewOf s c) l .stages)))
@@ -109,7 +108,7 @@ module _ (s : List ℕ) (c : Counts) (a : Accepted s c) (l : ℕ) (h : l < c .la
     ap (λ (b : Bool). ok && b)
         (p
         ∙ all-named (fieldIs s c 6 l) (λ t. eqb (stageOf (viewOf s c) t .layer) l) (λ k. u16At s (refsAt c + 2 * k)) (c .stages) (there .stages .first)
-        (there .stages .count) (λ j x y n. stages-named j x y) field-layer
+        (there .stages .count) (λ j x y n. stages-named j x y) (field-layer s c l)
         ∙ ap (all (λ t. eqb (stageOf (viewOf s c) t .layer) l)) layer-list),
     q ∙ ap (λ (x : List ℕ). tally x counts) layer-list,
   )

@@ -12,7 +12,7 @@ use Rattle.effect.proofs.Finite.{getD-any}
 use Rattle.vir.specs.declared.interface.InterfaceKind.the-variants.{Inspect}
 use Rattle.vir.specs.Ids.{none}
 use Rattle.records.specs.Layout.{within}
-use Rattle.records.proofs.Every.{every-at}
+use Rattle.records.proofs.Every.{every-at, every-from}
 use Rattle.image.specs.Encode.{countsOfVir}
 use Rattle.image.specs.Kind.{all, concat, occurrences, present, stagesOf, listed, listedByOwn, flat, kindOfVir}
 use Rattle.image.specs.View.{collect}
@@ -23,7 +23,7 @@ use Rattle.wellformed.proofs.Plain.{fitting}
 use Rattle.normalizer.specs.Layered.{Layered}
 use Rattle.normalizer.specs.Normalize.{normalized, unwrap, normalize}
 use Rattle.normalizer.proofs.Formed.{SetOnce, stages-length, facts, good-at, normal-formed}
-use Rattle.normalizer.proofs.Members.{all-one, all-imp, every-from}
+use Rattle.normalizer.proofs.Members.{all-one, all-imp}
 use Rattle.normalizer.proofs.Sound.{single, Shape, Good, as-many, stages-grow}
 
 module _ {A : Type 0} (g : A → List ℕ) (t : ℕ) where

@@ -7,7 +7,6 @@ use native.Mathlib.Nat.{not-suc-le-zero, le-of-suc-le-suc}
 use native.Mathlib.Omega.{arith}
 use lib.ListN.{length, getD, set}
 use Rattle.records.proofs.Guards.{left-true, right-true}
-use Rattle.records.specs.Every.{every}
 use Rattle.image.specs.Kind.{all, concat}
 use Rattle.image.specs.Loops.{each}
 
@@ -82,11 +81,6 @@ pub each-keeps : {A S : Type 0} (P : S → Type 0) (q : A → Bool) (f : A → S
 unfolding all each
 each-keeps P q f k [] h s p = p
 each-keeps P q f k (x ∷ xs) h s p = each-keeps P q f k xs (right-true (q x) (all q xs) h) (f x s) (k x s (left-true (q x) (all q xs) h) p)
-
-pub every-from : (f : ℕ → Bool) (n : ℕ) → ((i : ℕ) → i < n → f i ≡ true) → every n f ≡ true
-unfolding every
-every-from f zero p = refl
-every-from f (suc n) p = both-true (every-from f n (λ i h. p i (omega (arith, h)))) (p n (omega arith))
 
 -- a fact of each member
 abbrev pub Holds : {A : Type 0} → (A → Type 0) → List A → Type 0

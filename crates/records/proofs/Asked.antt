@@ -25,11 +25,11 @@ use Rattle.records.specs.Faults.{orNone, kindLists, headerHas, stepHas, 
 use Rattle.records.proofs.Fits.{named-invoke, named-transfer, named-diverge, named-other}
 
 -- what holds at each of the first m numbers
-abbrev Each : (ℕ → Type 0) → ℕ → Type 0
+abbrev pub Each : (ℕ → Type 0) → ℕ → Type 0
 Each P zero = Unit
 Each P (suc m) = Each P m × P m
 
-each-at : (P : ℕ → Type 0) (m : ℕ) → Each P m → (k : ℕ) → k < m → P k
+pub each-at : (P : ℕ → Type 0) (m : ℕ) → Each P m → (k : ℕ) → k < m → P k
 each-at P zero e k h = absurd (not-suc-le-zero h)
 each-at P (suc m) e k h = go (eqb k m) refl (λ (l : k < m). each-at P m (e .0) k l)
   where

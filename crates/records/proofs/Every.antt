@@ -42,6 +42,12 @@ every-at f n i t h = go (f i) refl
     go true e = e
     go false e = let z : true ≡ false = sym t ∙ every-stop f n i h e in absurd (true≢false z)
 
+-- what passes at each number below another passes at every one
+pub every-from : (f : ℕ → Bool) (n : ℕ) → ((k : ℕ) → k < n → f k ≡ true) → every n f ≡ true
+unfolding every
+every-from f zero h = refl
+every-from f (suc n) h = ap₂ _&&_ (every-from f n (λ k l. h k (omega arith))) (h n (omega arith))
+
 -- tests that agree below n agree at every number below it
 pub every-cong : (f g : ℕ → Bool) (n : ℕ) → ((k : ℕ) → k < n → f k ≡ g k) → every n f ≡ every n g
 unfolding every

@@ -40,13 +40,14 @@ interface-fits c r i h =
     (right-true (kindLists (kindOf (i .kind)) (i .list .count) && (eqb (i .kind) 2 || eqb (i .key) 0)) _ h)
 
 -- a Closure lists three
-pub closure-three : (c : Counts) (r : Running) (i : InterfaceRecord) → interfaceFields c r i ≡ true → i .kind ≡ 3 → i .list .count ≡ 3
+pub three-listed : (k n : ℕ) → kindLists (kindOf k) n ≡ true → k ≡ 3 → n ≡ 3
 unfolding kindOf
-closure-three c r i h k =
-    let lists : kindLists (kindOf (i .kind)) (i .list .count) ≡ true =
-    left-true _ (eqb (i .kind) 2 || eqb (i .key) 0)
-    (left-true _ (laid (r .refs) (c .refs) (i .list)) h) in
-    eqb-true (i .list .count) 3 (subst (λ (n : ℕ). kindLists (kindOf n) (i .list .count) ≡ true) k lists)
+three-listed k n h e = eqb-true n 3 (subst (λ (x : ℕ). kindLists (kindOf x) n ≡ true) e h)
+
+pub closure-three : (c : Counts) (r : Running) (i : InterfaceRecord) → interfaceFields c r i ≡ true → i .kind ≡ 3 → i .list .count ≡ 3
+closure-three c r i h =
+    three-listed (i .kind) (i .list .count)
+    (left-true _ (eqb (i .kind) 2 || eqb (i .key) 0) (left-true _ (laid (r .refs) (c .refs) (i .list)) h))
 
 module _ (c : Counts) (r : Running) (t : StageRecord) (h : stageFields c r t ≡ true) where
   lists : stageLists c r t ≡ true

@@ -14,8 +14,9 @@ use Rattle.records.specs.Bytes.{u16At}
 use Rattle.records.specs.Every.{every}
 use Rattle.records.specs.Faults.{kindLists, listAt}
 use Rattle.records.specs.Records.{interfaceAt}
+use Rattle.records.proofs.Fits.{three-listed}
 use Rattle.accept.proofs.Entries.{Listed}
-use Rattle.accept.proofs.Listed.{closure-three, key-free, inspect-passes, closure-passes, stages-pass}
+use Rattle.accept.proofs.Listed.{key-free, inspect-passes, closure-passes, stages-pass}
 use Rattle.accept.proofs.interfaces.interface_passes.Statement.{statement}
 use Rattle.accept.proofs.interfaces.interface_passes.Tie as tie
 
@@ -118,7 +119,7 @@ u16-at-requires-2 : tie.Need-u16-at-requires-2
 u16-at-requires-2 c κs =
     let e = c .before .before .before .before .before in
     let pre = start e .pre in
-    omega (arith, closure-three (here e .kind) (here e .list .count) (lists e) (c .if5 .taken), pre .0 .long, pre .1 .1 .1 .0, pre .1 .1 .1 .1)
+    omega (arith, three-listed (here e .kind) (here e .list .count) (lists e) (c .if5 .taken), pre .0 .long, pre .1 .1 .1 .0, pre .1 .1 .1 .1)
 
 returns-5 : tie.Need-returns-5
 returns-5 c = λ b. absurd (true≢false (sym b))
