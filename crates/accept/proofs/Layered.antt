@@ -14,20 +14,22 @@ use Rattle.records.specs.declared.record.Run.{Run}
 use Rattle.records.specs.declared.running.Judged.the-variants.{Fault, Next}
 use Rattle.records.specs.Bytes.{u16At}
 use Rattle.records.specs.Every.{every}
-use Rattle.records.specs.Faults.{listAt, refsBelow, layerGood}
+use Rattle.records.specs.Faults.{refsBelow, layerGood}
 use Rattle.records.specs.Judge.{judge, walkSection}
-use Rattle.records.specs.Layout.{layersAt, refsAt, layerSize, Sized}
+use Rattle.records.specs.Layout.{layersAt, layerSize, Sized}
 use Rattle.records.specs.Records.{layerAt}
-use Rattle.records.proofs.Every.{every-zero, every-on, every-at, every-end}
+use Rattle.records.proofs.Every.{every-zero, every-on, every-end}
 use Rattle.records.proofs.Walks.{Walking, walking-start, walking-on, walking-end}
+use Rattle.image.specs.Accepted.{Named}
 use Rattle.image.specs.Kind.{all, concat, present}
 use Rattle.image.specs.Tally.{tally, fieldIs}
 use Rattle.image.specs.View.{refsFrom, viewOf}
-use Rattle.image.specs.Vir.{Layer, layerOf, stageOf}
+use Rattle.image.specs.Vir.{layerOf, stageOf}
 use Rattle.image.proofs.Fields.{parent-at}
-use Rattle.image.proofs.Listing.{present-whole, field-layer}
-use Rattle.image.proofs.Owning.{all-named, Owning, owning-start, owning-on, owning-end}
-use Rattle.image.proofs.Viewing.{length-layers, layer-at}
+use Rattle.image.proofs.Accepting.{refs-named}
+use Rattle.image.proofs.Listing.{layer-list, own-layer}
+use Rattle.image.proofs.Owning.{Owning, owning-start, owning-on, owning-end}
+use Rattle.image.proofs.Viewing.{length-layers}
 use Rattle.accept.specs.Passing.{ran, LayersPass}
 
 -- a parent's test, and a layer's
@@ -62,31 +64,18 @@ Passes s c before after l p =
     × (owned s c l ≡ true)
     × (after ≡ tally (layerOf (viewOf s c) l .stages) before)
 
-module _ (s : List ℕ) (c : Counts) (z : Sized s c) (l p : ℕ) (h : l < c .layers) (e : p ≡ layersAt c + layerSize * l)
-    (run : Run) (q : run ≡ layerAt s p .stages) (b : refsBelow s c run (c .stages) ≡ true) where
-  stages-named : (j : ℕ) → run .first ≤ j → j < run .first + run .count → u16At s (refsAt c + 2 * j) < c .stages
-  stages-named j x y =
-      let place : listAt c run + 2 * (j - run .first) ≡ refsAt c + 2 * j = omega arith in
-      subst (λ (n : ℕ). u16At s n < c .stages) place
-      (ltb-true _ (c .stages) (every-at (λ k. ltb (u16At s (listAt c run + 2 * k)) (c .stages)) (run .count) (j - run .first) b (omega arith)))
-
-  layer-list : present (refsFrom s c run) ≡ layerOf (viewOf s c) l .stages
-  layer-list =
-      present-whole (λ k. u16At s (refsAt c + 2 * k)) (run .first) (run .count) (λ j x y n. omega (arith, stages-named j x y, z .stages))
-      ∙ ap (refsFrom s c) q ∙ ap (λ (n : ℕ). refsFrom s c (layerAt s n .stages)) e ∙ sym (ap (λ (x : Layer). x .stages) (layer-at s c l h))
-
-  pub layer-told : (before : List ℕ) {after : List ℕ} → under (layerAt s p .parent .0) l ≡ true → all (fieldIs s c 6 l) (present (refsFrom s c run)) ≡ true
-      → after ≡ tally (present (refsFrom s c run)) before → Passes s c before after l p
-  layer-told before parent own counted = (
-    parent,
-    subst (λ (x : Run). refsBelow s c x (c .stages) ≡ true) q b,
-    sym
-        (all-named (fieldIs s c 6 l) (λ t. eqb (stageOf (viewOf s c) t .layer) l) (λ k. u16At s (refsAt c + 2 * k)) (c .stages) (run .first) (run .count)
-        (λ j x y n. stages-named j x y) (field-layer s c l)
-        ∙ ap (all (λ t. eqb (stageOf (viewOf s c) t .layer) l)) layer-list)
-        ∙ own,
-    counted ∙ ap (λ (x : List ℕ). tally x before) layer-list,
-  )
+-- what a layer's list shows that passes
+pub layer-told : (s : List ℕ) (c : Counts) → Sized s c → (l p : ℕ) → l < c .layers → p ≡ layersAt c + layerSize * l → (run : Run) → run ≡ layerAt s p .stages
+    → refsBelow s c run (c .stages) ≡ true → (before : List ℕ) {after : List ℕ} → under (layerAt s p .parent .0) l ≡ true
+    → all (fieldIs s c 6 l) (present (refsFrom s c run)) ≡ true → after ≡ tally (present (refsFrom s c run)) before → Passes s c before after l p
+layer-told s c z l p h e run q b before parent own counted =
+    let below : refsBelow s c (layerAt s p .stages) (c .stages) ≡ true = subst (λ (x : Run). refsBelow s c x (c .stages) ≡ true) q b in
+    let named : Named s c (layerAt s p .stages) (c .stages) = refs-named s c (layerAt s p .stages) (c .stages) below in (
+      parent,
+      below,
+      sym (ap (λ (x : Run). all (fieldIs s c 6 l) (present (refsFrom s c x))) q ∙ own-layer s c z p l e h named) ∙ own,
+      counted ∙ ap (λ (x : Run). tally (present (refsFrom s c x)) before) q ∙ ap (λ (x : List ℕ). tally x before) (layer-list s c z p l e h named),
+    )
 
 -- where its list starts at the running place and ends within the refs, a layer that passes is good
 layer-judged : (s : List ℕ) (c : Counts) (l p refs next : ℕ) → l < c .layers → u16At s (p + 2) ≡ refs → next ≡ refs + u16At s (p + 4) → next ≤ c .refs

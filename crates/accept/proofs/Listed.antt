@@ -1,7 +1,7 @@
 -- What an interface lists, in the view and in the bytes, where its list passes.
 use mathlib.Core.Path.{_≡_, _∙_, refl, sym, ap, ap₂}
 use mathlib.Core.Bool.{Bool, true, false, _&&_, _||_, or-true}
-use mathlib.Core.List.{List, []}
+use mathlib.Core.List.{List}
 use Prim.Native.Nat.{ℕ, _+_, _*_, _<_}
 use native.Mathlib.Omega.{arith}
 use lib.Dec.{eqb, ltb}
@@ -13,18 +13,16 @@ use Rattle.records.specs.declared.record.InterfaceRecord.{InterfaceRecord}
 use Rattle.records.specs.Bytes.{u16At}
 use Rattle.records.specs.Every.{every}
 use Rattle.records.specs.Faults.{orNone, listAt, kindLists, closureAt, entriesNamed}
-use Rattle.records.specs.Layout.{refsAt, interfacesAt}
+use Rattle.records.specs.Layout.{interfacesAt}
 use Rattle.records.specs.Records.{interfaceAt}
 use Rattle.records.proofs.Fits.{three-listed, entries-inspect, entries-closure, entries-stages}
 use Rattle.image.specs.Accepted.{NamedOrNone, entryAt}
-use Rattle.image.specs.Kind.{all, present, stagesIn, stagesOf}
+use Rattle.image.specs.Kind.{all, present, stagesOf}
 use Rattle.image.specs.Tally.{tally, fieldIs}
-use Rattle.image.specs.View.{kindIn, refsFrom, interfaceOfRecord, viewOf}
+use Rattle.image.specs.View.{refsFrom, viewOf}
 use Rattle.image.specs.Vir.{interfaceOf, stageOf}
 use Rattle.image.proofs.Accepting.{kind-known}
-use Rattle.image.proofs.Listing.{kind-lists, field-interface}
-use Rattle.image.proofs.Owning.{all-named, entries-named}
-use Rattle.image.proofs.Viewing.{interface-at}
+use Rattle.image.proofs.Listing.{inspect-empty, lists-present, own-all}
 use Rattle.accept.proofs.Entries.{Listed}
 
 or-none : (n i : ℕ) → NamedOrNone i n → orNone n i ≡ true
@@ -54,29 +52,17 @@ module _ (s : List ℕ) (c : Counts) (p i : ℕ) where
       × (after ≡ tally (stagesOf (interfaceOf (viewOf s c) i)) counts)
 
   module _ (place : p ≡ interfacesAt c + 9 * i) (h : i < c .interfaces) (lists : kindLists (kindOf (here .kind)) (here .list .count) ≡ true) where
-    viewed : interfaceOf (viewOf s c) i ≡ interfaceOfRecord s c here
-    viewed = interface-at s c i h ∙ ap (λ (q : ℕ). interfaceOfRecord s c (interfaceAt s q)) (sym place)
-
-    inspect-empty : here .kind ≡ 4 → stagesOf (interfaceOf (viewOf s c) i) ≡ []
-    unfolding kindOf
-    inspect-empty k = ap stagesOf viewed ∙ ap (λ (n : ℕ). stagesIn (kindIn (kindOf n)) (refsFrom s c (here .list))) k
-
-    lists-present : (here .kind ≡ 4 → ⊥) → stagesOf (interfaceOf (viewOf s c) i) ≡ present (refsFrom s c (here .list))
-    lists-present n = ap stagesOf viewed ∙ kind-lists (here .kind) (refsFrom s c (here .list)) (kind-known (here .kind) (here .list .count) lists) n
+    known : here .kind < 5
+    known = kind-known (here .kind) (here .list .count) lists
 
     module _ (n : here .kind ≡ 4 → ⊥) where
-      own-all : ((k : ℕ) → k < here .list .count → NamedOrNone (entryAt s c (here .list) k) (c .stages))
+      own-told : ((k : ℕ) → k < here .list .count → NamedOrNone (entryAt s c (here .list) k) (c .stages))
           → all (fieldIs s c 4 i) (present (refsFrom s c (here .list))) ≡ true → all owned (stagesOf (interfaceOf (viewOf s c) i)) ≡ true
-      own-all named own =
-          ap (all owned) (lists-present n)
-          ∙ sym
-          (all-named (fieldIs s c 4 i) owned (λ k. u16At s (refsAt c + 2 * k)) (c .stages) (here .list .first) (here .list .count)
-          (entries-named s c (here .list) (c .stages) named) (field-interface s c i))
-          ∙ own
+      own-told named own = sym (own-all s c p i place h known n named) ∙ own
 
       counted : (counts : List ℕ) {after : List ℕ} → after ≡ tally (present (refsFrom s c (here .list))) counts
           → after ≡ tally (stagesOf (interfaceOf (viewOf s c) i)) counts
-      counted counts q = q ∙ sym (ap (λ (x : List ℕ). tally x counts) (lists-present n))
+      counted counts q = q ∙ sym (ap (λ (x : List ℕ). tally x counts) (lists-present s c p i place h known n))
 
     module _ (counts : List ℕ) where
       -- an Inspect lists locals, and counts nothing
@@ -87,8 +73,8 @@ module _ (s : List ℕ) (c : Counts) (p i : ℕ) where
         lists,
         key-free here z,
         sym (entries-inspect s c here at e k) ∙ b,
-        ap (all owned) (inspect-empty k),
-        sym (ap (λ (x : List ℕ). tally x counts) (inspect-empty k)),
+        ap (all owned) (inspect-empty s c p i place h k),
+        sym (ap (λ (x : List ℕ). tally x counts) (inspect-empty s c p i place h k)),
       )
 
       -- a Closure's first entry is no gap
@@ -105,11 +91,11 @@ module _ (s : List ℕ) (c : Counts) (p i : ℕ) where
             lists,
             key-free here z,
             sym (entries-closure s c here (listAt c (here .list)) refl other k) ∙ entries,
-            own-all other (l .0) (l .2),
+            own-told other (l .0) (l .2),
             counted other counts (l .3),
           )
 
       pub stages-pass : {after : List ℕ} → (here .kind ≡ 4 → ⊥) → (here .kind ≡ 3 → ⊥) → (eqb (here .kind) 2 || eqb (here .key) 0) ≡ true
           → Listed s c 4 i false counts (here .list) after → Passes counts after
       stages-pass n m z l =
-          (lists, z, sym (entries-stages s c here (listAt c (here .list)) refl n m) ∙ l .1 refl, own-all n (l .0) (l .2), counted n counts (l .3))
+          (lists, z, sym (entries-stages s c here (listAt c (here .list)) refl n m) ∙ l .1 refl, own-told n (l .0) (l .2), counted n counts (l .3))

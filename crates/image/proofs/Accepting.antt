@@ -45,7 +45,7 @@ named-or-none : (n i : ℕ) → orNone n i ≡ true → NamedOrNone i n
 named-or-none n i h some = ltb-true i n (sym (ap (λ (b : Bool). b || ltb i n) (ne-eqb i none some)) ∙ h)
 
 -- .. and of a list's entries
-refs-named : (s : List ℕ) (c : Counts) (run : Run) (n : ℕ) → refsBelow s c run n ≡ true → Named s c run n
+pub refs-named : (s : List ℕ) (c : Counts) (run : Run) (n : ℕ) → refsBelow s c run n ≡ true → Named s c run n
 refs-named s c run n h k l = ltb-true (entryAt s c run k) n (every-at (λ k. ltb (entryAt s c run k) n) (run .count) k h l)
 
 -- a Closure's three entries

@@ -1,4 +1,4 @@
-// The image of document 01 as a value, its kind, its layer rules, and the answer that every image gets.
+// The image of document 01 as a value, its kind, its layer rules, and the answer for each code.
 pub mod answer;
 pub mod check;
 pub mod entering;
