@@ -1,11 +1,1 @@
-pub mod Ahead
-pub mod Crossing
-pub mod Entries
-pub mod Going
-pub mod Layered
-pub mod Listed
-pub mod Rising
-pub mod Staging
-pub mod Tabled
 pub mod Told
-pub mod Words

@@ -21,7 +21,7 @@ use Rattle.records.proofs.Every.{every-cong}
 use Rattle.image.specs.declared.answer.Answer.{Answer}
 use Rattle.image.specs.Check.{owned, kindAnswer, recordAnswer}
 use Rattle.image.specs.Kind.{kindOfVir}
-use Rattle.image.specs.LayerRules.{enteredFromParent, enteredOnce, divergesOut, layerRules}
+use Rattle.image.specs.LayerRules.{layerRules}
 use Rattle.image.specs.View.{viewOf}
 use Rattle.image.specs.Vir.{Vir, stageOf}
 use Rattle.image.proofs.Answering.{records-owned, kind-is-flat, kind-is-layered}
@@ -29,7 +29,10 @@ use Rattle.image.proofs.Deciding.{kind-flat, kind-layered}
 use Rattle.image.proofs.Fields.{transfer-at}
 use Rattle.image.proofs.Ruling.{rule-diverges}
 use Rattle.image.proofs.Viewing.{length-stages}
-use Rattle.accept.specs.Passing.{ran, ends, bare, RecordsPass}
+use Rattle.lists.specs.Passing.{ran}
+use Rattle.sections.specs.Jumping.{LayersGood, JumpsGood}
+use Rattle.sections.specs.Passing.{bare}
+use Rattle.accept.specs.Passing.{ends, RecordsPass}
 
 module _ (s : List ℕ) (c : Counts) where
   -- a section that is passed, and those behind it
@@ -80,9 +83,11 @@ module _ (s : List ℕ) (c : Counts) where
       let one : 1 ≡ kindOfVir v = kind-flat s c (p .own) (p .listed) {b = true} h (no-transfer (p .bare h)) in
       by-kind p (kind-is-flat v (λ e. omega (arith, one, e)) (sym one))
 
-  pub told-layered : RecordsPass s c → (c .layers ≡ 0 → ⊥) → enteredFromParent v ≡ true → enteredOnce v ≡ true → divergesOut v ≡ true
-      → recordAnswer s c (walkAll s c sections (ran 0)) ≡ record { code = 0; place = 0; kind = 2 }
-  told-layered p h a b d =
+  pub told-layered : RecordsPass s c → (c .layers ≡ 0 → ⊥) → recordAnswer s c (walkAll s c sections (ran 0)) ≡ record { code = 0; place = 0; kind = 2 }
+  told-layered p h =
       let two : 2 ≡ kindOfVir v = kind-layered s c (p .own) (p .listed) h in
-      let rules : layerRules v ≡ true = sym (rule-diverges v (p .below h) (p .own-layer h) (p .once h) (p .lie h) a b (sym d)) in
+      let good : LayersGood s c = p .layers h in
+      let jumps : JumpsGood s c = p .jumps h in
+      let rules : layerRules v ≡ true =
+      sym (rule-diverges v (good .below) (good .own) (good .once) (good .lie) (jumps .entered) (jumps .once) (sym (jumps .out))) in
       by-kind p (kind-is-layered v (λ e. omega (arith, two, e)) (λ e. omega (arith, two, e)) rules)

@@ -4,54 +4,53 @@ ghost use mathlib.Core.Bool.{true};
 ghost use mathlib.Core.List.{[], _∷_};
 ghost use Prim.Native.Nat.{_≤_};
 ghost use Rattle.records.specs.Judge.{walkAll};
-ghost use Rattle.records.specs.Layout.{stagesAt, interfacesAt, refsAt, sections, Sized};
-ghost use Rattle.image.specs.Accepted.{Accepted};
+ghost use Rattle.records.specs.Layout.{countsOf, stagesAt, refsAt, sections, Sized};
 ghost use Rattle.image.specs.Check.{recordAnswer, checkOf};
-ghost use Rattle.image.specs.LayerRules.{parentsBelow, listedByOwnLayer, listedOnce, interfacesLie, enteredFromParent, enteredOnce, divergesOut};
-ghost use Rattle.image.specs.View.{viewOf};
-ghost use Rattle.accept.specs.Passing.{ran, ends, bare, LayersEnd, InterfacesEnd, RecordsPass};
-use crate::interfaces::pass_interfaces;
-use crate::layers::pass_layers;
-use crate::locals::pass_locals;
-use crate::locals::pass_types;
-use crate::ports::pass_ports;
-use crate::stages::pass_refs;
-use crate::stages::pass_stages;
-use crate::steps::pass_steps;
-use crate::untold::UNTOLD;
+ghost use Rattle.lists.specs.Passing.{ran};
+ghost use Rattle.sections.specs.Jumping.{LayersGood, JumpsGood};
+ghost use Rattle.sections.specs.Passing.{bare};
+ghost use Rattle.accept.specs.Passing.{ends, LayersEnd, RecordsPass};
 use image::answer::Answer;
 use image::check::judge_records;
 use image::check::marked;
 use image::check::refused;
-use image::entering::entered_once;
-use image::entering::jump_all;
-use image::tally::counted;
+use lists::interfaces::pass_interfaces;
+use lists::layers::pass_layers;
+use lists::untold::UNTOLD;
 use records::layout::Counts;
 use records::layout::HEAD;
 use records::layout::INTERFACE;
 use records::layout::LAYER;
 use records::layout::LOCAL;
-use records::layout::PORT;
 use records::layout::REF;
 use records::layout::STAGE;
 use records::layout::STEP;
 use records::layout::Section;
 use records::layout::TYPE;
 use records::running::Walked;
+use sections::locals::pass_locals;
+use sections::locals::pass_types;
+use sections::ports::pass_ports;
+use sections::runs::pass_runs;
+use sections::stages::pass_refs;
+use sections::stages::pass_stages;
+use sections::steps::pass_steps;
 
-// The sections behind the interfaces; the last are found from the end, which is the shorter way.
+// The sections behind the interfaces.
 fn rest_passes(s: &[u8], c: Counts, stages: usize, base: usize, from: usize) -> bool
     requires { ⌜ Sized (now s) c ⌝ }
+    requires { ⌜ c ≡ countsOf (now s) ⌝ }
     requires { ⌜ stages ≡ stagesAt c ⌝ }
     requires { ⌜ base ≡ refsAt c ⌝ }
     requires { ⌜ from ≤ c .refs ⌝ }
+    requires { ⌜ ((c .layers ≡ 0 → ⊥) → LayersGood (now s) c) ⌝ }
     ensures { λ b. ⌜ (b ≡ true → (walkAll (now (s .entry)) c (Section.Stages ∷ Section.Locals ∷ Section.Types ∷ Section.Steps ∷ Section.Ports ∷ []) (ran from)
-        ≡ Walked.Clean (ends c)) × (c .layers ≡ 0 → bare (now (s .entry)) c ≡ true)) ⌝ }
+        ≡ Walked.Clean (ends c)) × (c .layers ≡ 0 → bare (now (s .entry)) c ≡ true) × ((c .layers ≡ 0 → ⊥) → JumpsGood (now (s .entry)) c)) ⌝ }
 {
     let locals = stages + STAGE * (c.stages as usize);
-    let ports = base - PORT * (c.ports as usize);
-    let steps = ports - STEP * (c.steps as usize);
-    let types = steps - TYPE * (c.types as usize);
+    let types = locals + LOCAL * (c.locals as usize);
+    let steps = types + TYPE * (c.types as usize);
+    let ports = steps + STEP * (c.steps as usize);
     if !pass_refs(s, c, base, from) {
         return false;
     }
@@ -71,38 +70,28 @@ fn rest_passes(s: &[u8], c: Counts, stages: usize, base: usize, from: usize) -> 
     if !pass_types(s, c, types) {
         return false;
     }
-    if !pass_ports(s, c, ports) {
+    if !pass_ports(s, ports) {
         return false;
     }
-    pass_steps(s, c, steps, r.ports)
+    if c.layers == 0 {
+        return pass_steps(s, steps, r.ports);
+    }
+    pass_runs(s, stages, steps, r.ports)
 }
 
-// How far the refs go, or UNTOLD.
-fn layers_end(s: &[u8], c: Counts, base: usize) -> usize
+// How far the layers' refs go, or UNTOLD; each stage is listed by one of them.
+fn layers_end(s: &[u8], c: Counts, stages: usize, base: usize) -> usize
     requires { ⌜ Sized (now s) c ⌝ }
+    requires { ⌜ stages ≡ stagesAt c ⌝ }
     requires { ⌜ base ≡ refsAt c ⌝ }
     ensures { λ r. ⌜ (r ≤ c .refs → LayersEnd (now (s .entry)) c r) ⌝ }
 {
     if c.layers == 0 {
         return 0;
     }
-    let mut counts = [0u8; 256];
-    let refs = pass_layers(s, c, base, &mut counts);
-    if !counted(&counts, c.stages, 1) {
-        return UNTOLD;
-    }
-    refs
-}
-
-fn interfaces_end(s: &[u8], c: Counts, at: usize, base: usize, from: usize) -> usize
-    requires { ⌜ Sized (now s) c ⌝ }
-    requires { ⌜ at ≡ interfacesAt c ⌝ }
-    requires { ⌜ base ≡ refsAt c ⌝ }
-    ensures { λ r. ⌜ (r ≤ c .refs → InterfacesEnd (now (s .entry)) c from r) ⌝ }
-{
-    let mut counts = [0u8; 256];
-    let refs = pass_interfaces(s, c, at, base, from, &mut counts);
-    if !counted(&counts, c.stages, 2) {
+    let mut marks = [1u8; 256];
+    let refs = pass_layers(s, c, stages, base, &mut marks);
+    if refs != (c.stages as usize) {
         return UNTOLD;
     }
     refs
@@ -110,45 +99,28 @@ fn interfaces_end(s: &[u8], c: Counts, at: usize, base: usize, from: usize) -> u
 
 fn records_pass(s: &[u8], c: Counts) -> bool
     requires { ⌜ Sized (now s) c ⌝ }
+    requires { ⌜ c ≡ countsOf (now s) ⌝ }
     ensures { λ b. ⌜ (b ≡ true → RecordsPass (now (s .entry)) c) ⌝ }
 {
     let interfaces = HEAD + LAYER * (c.layers as usize);
     let stages = interfaces + INTERFACE * (c.interfaces as usize);
     let base = s.len() - REF * (c.refs as usize);
-    let first = layers_end(s, c, base);
+    let first = layers_end(s, c, stages, base);
     if (c.refs as usize) < first {
         return false;
     }
-    let second = interfaces_end(s, c, interfaces, base, first);
+    let mut counts = [0u8; 256];
+    let second = pass_interfaces(s, c, interfaces, base, first, &mut counts);
     if (c.refs as usize) < second {
         return false;
     }
     rest_passes(s, c, stages, base, second)
 }
 
-fn jumps_pass(s: &[u8], c: Counts) -> bool
-    requires { ⌜ Accepted (now s) c ⌝ }
-    requires { ⌜ interfacesLie (viewOf (now s) c) ≡ true ⌝ }
-    requires { ⌜ parentsBelow (viewOf (now s) c) ≡ true ⌝ }
-    requires { ⌜ listedByOwnLayer (viewOf (now s) c) ≡ true ⌝ }
-    requires { ⌜ listedOnce (viewOf (now s) c) ≡ true ⌝ }
-    ensures { λ b. ⌜ (b ≡ true → (enteredFromParent (viewOf (now (s .entry)) c) ≡ true) × (enteredOnce (viewOf (now (s .entry)) c) ≡ true)
-        × (divergesOut (viewOf (now (s .entry)) c) ≡ true)) ⌝ }
-{
-    let mut entered = [0u8; 256];
-    let found = jump_all(s, c, &mut entered);
-    if !found.entered {
-        return false;
-    }
-    if !entered_once(s, c, &entered) {
-        return false;
-    }
-    found.out
-}
-
-// 6 record, 7 kind, 8 layers. What is not told is walked: two calls keep the walk out of line.
+// 6 record, 7 kind, 8 layers. What is not told is walked.
 fn told(s: &[u8], c: Counts) -> Answer
     requires { ⌜ Sized (now s) c ⌝ }
+    requires { ⌜ c ≡ countsOf (now s) ⌝ }
     ensures { λ r. ⌜ r ≡ recordAnswer (now (s .entry)) c (walkAll (now (s .entry)) c sections (ran 0)) ⌝ }
 {
     if !records_pass(s, c) {
@@ -160,9 +132,6 @@ fn told(s: &[u8], c: Counts) -> Answer
             place: 0,
             kind: 1,
         };
-    }
-    if !jumps_pass(s, c) {
-        return judge_records(s, c);
     }
     Answer {
         code: 0,

@@ -97,7 +97,7 @@ pub fn port_good(c: Counts, p: PortRecord) -> bool
 }
 
 // 1, 2, any, 3, any: to compare is quicker than to make the kind.
-pub fn kind_lists(kind: u8, count: u16) -> bool
+fn kind_lists(kind: u8, count: u16) -> bool
     ensures { λ r. ⌜ r ≡ kindLists (kindOf kind) count ⌝ }
 {
     if kind <= 1 {
@@ -110,7 +110,7 @@ pub fn kind_lists(kind: u8, count: u16) -> bool
 }
 
 // 0, 1, 1+, 1, 1+, 2, 0, any.
-pub fn header_has(tag: u8, count: u16) -> bool
+fn header_has(tag: u8, count: u16) -> bool
     ensures { λ r. ⌜ r ≡ headerHas (headerOf tag) count ⌝ }
 {
     if (tag == 0) | (tag == 6) {

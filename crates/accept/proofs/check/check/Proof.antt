@@ -2,7 +2,7 @@ use mathlib.Core.Path.{_∙_, sym, ap}
 use borrow.Author.Tests.{not-true, not-false}
 use Rattle.records.specs.declared.layout.Counts.{Counts}
 use Rattle.image.specs.Check.{recordAnswer}
-use Rattle.accept.specs.Passing.{ran}
+use Rattle.lists.specs.Passing.{ran}
 use Rattle.records.specs.Judge.{walkAll}
 use Rattle.records.specs.Layout.{within, lengthOf, sections}
 use Rattle.image.proofs.Answering.{check-short, check-unmarked, check-count, check-length, check-records, within-sized}
@@ -64,7 +64,7 @@ told-requires : tie.Need-told-requires
 told-requires c κs =
     let t = c .before in
     let w = t .before .before in
-    within-sized _ _ (sym (w .within .ensures) ∙ not-false _ (t .before .if3 .left)) (c .if4 .left ∙ t .length .ensures)
+    (within-sized _ _ (sym (w .within .ensures) ∙ not-false _ (t .before .if3 .left)) (c .if4 .left ∙ t .length .ensures), w .before .read .ensures)
 
 returns-5 : tie.Need-returns-5
 returns-5 c =

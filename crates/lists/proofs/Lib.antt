@@ -1,0 +1,6 @@
+pub mod Crossing
+pub mod Entries
+pub mod Freed
+pub mod Held
+pub mod Layered
+pub mod Listed

@@ -1,0 +1,3 @@
+pub mod Jumping
+pub mod Passing
+pub mod Tables
