@@ -30,7 +30,7 @@ use Rattle.image.proofs.Fields.{transfer-at}
 use Rattle.image.proofs.Ruling.{rule-diverges}
 use Rattle.image.proofs.Viewing.{length-stages}
 use Rattle.lists.specs.Passing.{ran}
-use Rattle.sections.specs.Jumping.{LayersGood, JumpsGood}
+use Rattle.jumping.specs.Jumping.{LayersGood, JumpsGood}
 use Rattle.sections.specs.Passing.{bare}
 use Rattle.accept.specs.Passing.{ends, RecordsPass}
 

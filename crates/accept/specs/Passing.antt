@@ -13,7 +13,7 @@ use Rattle.image.specs.Kind.{listed, listedByOwn}
 use Rattle.image.specs.LayerRules.{parentsBelow, listedOnce, listedByOwnLayer}
 use Rattle.image.specs.View.{viewOf}
 use Rattle.lists.specs.Passing.{ran}
-use Rattle.sections.specs.Jumping.{LayersGood, JumpsGood}
+use Rattle.jumping.specs.Jumping.{LayersGood, JumpsGood}
 use Rattle.sections.specs.Passing.{bare}
 
 -- where the lists end if every entry is owned

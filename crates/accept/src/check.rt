@@ -7,54 +7,46 @@ ghost use Rattle.records.specs.Judge.{walkAll};
 ghost use Rattle.records.specs.Layout.{countsOf, stagesAt, refsAt, sections, Sized};
 ghost use Rattle.image.specs.Check.{recordAnswer, checkOf};
 ghost use Rattle.lists.specs.Passing.{ran};
-ghost use Rattle.sections.specs.Jumping.{LayersGood, JumpsGood};
+ghost use Rattle.jumping.specs.Jumping.{LayersGood, JumpsGood};
 ghost use Rattle.sections.specs.Passing.{bare};
+ghost use Rattle.accept.specs.Places.{startsOf};
 ghost use Rattle.accept.specs.Passing.{ends, LayersEnd, RecordsPass};
+use crate::bounds::bounded;
+use crate::starts::Starts;
 use image::answer::Answer;
 use image::check::judge_records;
 use image::check::marked;
 use image::check::refused;
+use jumping::runs::pass_runs;
 use lists::interfaces::pass_interfaces;
 use lists::layers::pass_layers;
 use lists::untold::UNTOLD;
 use records::layout::Counts;
 use records::layout::HEAD;
-use records::layout::INTERFACE;
-use records::layout::LAYER;
-use records::layout::LOCAL;
 use records::layout::REF;
-use records::layout::STAGE;
-use records::layout::STEP;
 use records::layout::Section;
-use records::layout::TYPE;
 use records::running::Walked;
 use sections::locals::pass_locals;
 use sections::locals::pass_types;
 use sections::ports::pass_ports;
-use sections::runs::pass_runs;
 use sections::stages::pass_refs;
 use sections::stages::pass_stages;
 use sections::steps::pass_steps;
 
 // The sections behind the interfaces.
-fn rest_passes(s: &[u8], c: Counts, stages: usize, base: usize, from: usize) -> bool
+fn rest_passes(s: &[u8], c: Counts, at: Starts, from: usize) -> bool
     requires { ⌜ Sized (now s) c ⌝ }
     requires { ⌜ c ≡ countsOf (now s) ⌝ }
-    requires { ⌜ stages ≡ stagesAt c ⌝ }
-    requires { ⌜ base ≡ refsAt c ⌝ }
+    requires { ⌜ at ≡ startsOf c ⌝ }
     requires { ⌜ from ≤ c .refs ⌝ }
     requires { ⌜ ((c .layers ≡ 0 → ⊥) → LayersGood (now s) c) ⌝ }
     ensures { λ b. ⌜ (b ≡ true → (walkAll (now (s .entry)) c (Section.Stages ∷ Section.Locals ∷ Section.Types ∷ Section.Steps ∷ Section.Ports ∷ []) (ran from)
         ≡ Walked.Clean (ends c)) × (c .layers ≡ 0 → bare (now (s .entry)) c ≡ true) × ((c .layers ≡ 0 → ⊥) → JumpsGood (now (s .entry)) c)) ⌝ }
 {
-    let locals = stages + STAGE * (c.stages as usize);
-    let types = locals + LOCAL * (c.locals as usize);
-    let steps = types + TYPE * (c.types as usize);
-    let ports = steps + STEP * (c.steps as usize);
-    if !pass_refs(s, c, base, from) {
+    if !pass_refs(s, c, at.refs, from) {
         return false;
     }
-    let r = pass_stages(s, c, stages, from);
+    let r = pass_stages(s, c, at.stages, from);
     if r.refs != (c.refs as usize) {
         return false;
     }
@@ -64,19 +56,19 @@ fn rest_passes(s: &[u8], c: Counts, stages: usize, base: usize, from: usize) -> 
     if (c.ports as usize) < r.ports {
         return false;
     }
-    if !pass_locals(s, c, locals) {
+    if !pass_locals(s, c, at.locals) {
         return false;
     }
-    if !pass_types(s, c, types) {
+    if !pass_types(s, c, at.types) {
         return false;
     }
-    if !pass_ports(s, ports) {
+    if !pass_ports(s, at.ports) {
         return false;
     }
     if c.layers == 0 {
-        return pass_steps(s, steps, r.ports);
+        return pass_steps(s, at.steps, r.ports);
     }
-    pass_runs(s, stages, steps, r.ports)
+    pass_runs(s, at.stages, at.steps, r.ports)
 }
 
 // How far the layers' refs go, or UNTOLD; each stage is listed by one of them.
@@ -97,33 +89,32 @@ fn layers_end(s: &[u8], c: Counts, stages: usize, base: usize) -> usize
     refs
 }
 
-fn records_pass(s: &[u8], c: Counts) -> bool
+fn records_pass(s: &[u8], c: Counts, at: Starts) -> bool
     requires { ⌜ Sized (now s) c ⌝ }
     requires { ⌜ c ≡ countsOf (now s) ⌝ }
+    requires { ⌜ at ≡ startsOf c ⌝ }
     ensures { λ b. ⌜ (b ≡ true → RecordsPass (now (s .entry)) c) ⌝ }
 {
-    let interfaces = HEAD + LAYER * (c.layers as usize);
-    let stages = interfaces + INTERFACE * (c.interfaces as usize);
-    let base = s.len() - REF * (c.refs as usize);
-    let first = layers_end(s, c, stages, base);
+    let first = layers_end(s, c, at.stages, at.refs);
     if (c.refs as usize) < first {
         return false;
     }
-    let mut counts = [0u8; 256];
-    let second = pass_interfaces(s, c, interfaces, base, first, &mut counts);
+    let mut marks = [1u8; 256];
+    let second = pass_interfaces(s, c, at.stages, at.interfaces, at.refs, first, &mut marks);
     if (c.refs as usize) < second {
         return false;
     }
-    rest_passes(s, c, stages, base, second)
+    rest_passes(s, c, at, second)
 }
 
 // 6 record, 7 kind, 8 layers. What is not told is walked.
-fn told(s: &[u8], c: Counts) -> Answer
+fn told(s: &[u8], c: Counts, at: Starts) -> Answer
     requires { ⌜ Sized (now s) c ⌝ }
     requires { ⌜ c ≡ countsOf (now s) ⌝ }
+    requires { ⌜ at ≡ startsOf c ⌝ }
     ensures { λ r. ⌜ r ≡ recordAnswer (now (s .entry)) c (walkAll (now (s .entry)) c sections (ran 0)) ⌝ }
 {
-    if !records_pass(s, c) {
+    if !records_pass(s, c, at) {
         return judge_records(s, c);
     }
     if c.layers == 0 {
@@ -150,11 +141,12 @@ pub fn check(s: &[u8]) -> Answer
         return refused(3, 0);
     }
     let c = Counts::read(s);
-    if !c.within() {
+    if !bounded(s) {
         return refused(4, 0);
     }
-    if s.len() != c.length() {
+    let at = Starts::of(c);
+    if s.len() != at.refs + REF * (c.refs as usize) {
         return refused(5, 0);
     }
-    told(s, c)
+    told(s, c, at)
 }

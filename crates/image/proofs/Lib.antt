@@ -10,6 +10,7 @@ pub mod Fields
 pub mod Gathered
 pub mod Heads
 pub mod Listing
+pub mod Mark
 pub mod Lists
 pub mod Named
 pub mod Numbers

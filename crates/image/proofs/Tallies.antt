@@ -80,7 +80,7 @@ bump-min n h = go (ltb n 2) refl
     go false e = let large : 2 ≤ n = ltb-false n 2 e in omega arith
 
 -- what a number is counted at is how often it stands in the list, up to two
-pub tally-counts : (ts counts : List ℕ) (t : ℕ) → t < length counts → getD counts t 0 ≤ 2
+tally-counts : (ts counts : List ℕ) (t : ℕ) → t < length counts → getD counts t 0 ≤ 2
     → getD (tally ts counts) t 0 ≡ min 2 (getD counts t 0 + occurrences t ts)
 unfolding tally occurrences
 tally-counts [] counts t h k = omega arith

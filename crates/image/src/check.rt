@@ -17,7 +17,7 @@ use crate::layer_rules::interfaces_lie;
 use crate::layer_rules::parents_below;
 use crate::layered::own_layers;
 use crate::tally::counted;
-use records::bytes::u16_at;
+use records::bytes::u32_at;
 use records::layout::Counts;
 use records::layout::VERSION;
 use records::running::Running;
@@ -34,11 +34,12 @@ pub fn refused(code: u32, place: u32) -> Answer
     }
 }
 
+// "IR" and the version are one word.
 pub fn marked(s: &[u8]) -> bool
     requires { ⌜ 21 ≤ length (now s) ⌝ }
     ensures { λ r. ⌜ r ≡ marked (now (s .entry)) ⌝ }
 {
-    (s[0] == 86) & (s[1] == 73) & (s[2] == 82) & (u16_at(s, 3) == VERSION)
+    (s[0] == 86) & (u32_at(s, 1) == 21065 + 65536 * (VERSION as u32))
 }
 
 fn owned(c: Counts, r: Running) -> bool

@@ -21,14 +21,7 @@ pub fn bump(n: u8) -> u8
 }
 
 // The stage t counted, and whether its field at f names its owner.
-pub fn tally_stage(
-    s: &[u8],
-    c: Counts,
-    f: usize,
-    owner: u16,
-    t: u16,
-    counts: &mut [u8; 256],
-) -> bool
+fn tally_stage(s: &[u8], c: Counts, f: usize, owner: u16, t: u16, counts: &mut [u8; 256]) -> bool
     requires { ⌜ Sized (now s) c ⌝ }
     requires { ⌜ f ≤ 28 ⌝ }
     requires { ⌜ t < c .stages ⌝ }

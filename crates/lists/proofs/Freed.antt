@@ -6,9 +6,8 @@ use Prim.Native.Nat.{ℕ, zero, suc, _+_, _*_, _<_, _≤_}
 use native.Mathlib.Numerals.{add-one}
 use native.Mathlib.Omega.{arith}
 use lib.Dec.{eqb, ltb}
-use lib.ListN.{length, getD, set, List·getD-eq-default}
-use lib.Seq.{getD-set-same, getD-set-other}
-use borrow.Author.Tests.{eqb-true, eqb-false, ne-eqb, lt-ltb, ltb-true, ltb-false}
+use lib.ListN.{getD, set}
+use borrow.Author.Tests.{eqb-true, ne-eqb, lt-ltb}
 use Rattle.vir.specs.Ids.{none}
 use Rattle.records.specs.declared.layout.Counts.{Counts}
 use Rattle.records.specs.declared.record.Run.{Run}
@@ -22,7 +21,7 @@ use Rattle.image.specs.View.{collect, refsFrom}
 use Rattle.image.proofs.Diverging.{occurrences-append}
 use Rattle.image.proofs.Passing.{all-append}
 use Rattle.lists.specs.Marking.{Unlisted}
-use Rattle.lists.proofs.Held.{held-less}
+use Rattle.lists.proofs.Held.{taken, held-less}
 
 -- n stages are listed more, those of es′
 abbrev pub Freed : Counts → List ℕ → List ℕ → ℕ → List ℕ → Type 0
@@ -32,61 +31,62 @@ Freed c before es′ n after = (es : List ℕ) (m : ℕ) → Unlisted c es m bef
 pub freed-none : (c : Counts) (marks : List ℕ) → Freed c marks [] 0 marks
 freed-none c marks es m u = rw (append-nil es) (record { so-far = u .so-far; many = omega (arith, u .many) })
 
--- what has a mark is not behind the marks
-within : (marks : List ℕ) (e : ℕ) → 0 < getD marks e 0 → e < length marks
-within marks e h = go (ltb e (length marks)) refl
-  where
-    go : (b : Bool) → ltb e (length marks) ≡ b → e < length marks
-    go true q = ltb-true e (length marks) q
-    go false q = absurd (omega (arith, List·getD-eq-default marks 0 {n = e} (ltb-false e (length marks) q)))
-
-occurs-last : (t e : ℕ) (es : List ℕ) → occurrences t (es ++ (e ∷ [])) ≡ occurrences t es + cond (eqb e t) 1 0
+-- what marks and lists say of a stage, where e loses its mark and is listed
+pub said-last : (marks es : List ℕ) (e t : ℕ)
+    → getD (set marks e 0) t 0 + occurrences t (es ++ (e ∷ [])) ≡ cond (eqb e t) (occurrences t es + 1) (getD marks t 0 + occurrences t es)
 unfolding occurrences
-occurs-last t e es = omega (arith, occurrences-append t es (e ∷ []))
+said-last marks es e t = go (eqb e t) (taken marks e t) (occurrences-append t es (e ∷ []))
+  where
+    go : (b : Bool) → getD (set marks e 0) t 0 ≡ cond b 0 (getD marks t 0) → occurrences t (es ++ (e ∷ [])) ≡ occurrences t es + (cond b 1 0 + 0)
+        → getD (set marks e 0) t 0 + occurrences t (es ++ (e ∷ [])) ≡ cond b (occurrences t es + 1) (getD marks t 0 + occurrences t es)
+    go true mark often = omega (arith, mark, often)
+    go false mark often = omega (arith, mark, often)
 
 freed-one : (c : Counts) (marks : List ℕ) (e : ℕ) → e < c .stages → 0 < getD marks e 0 → Freed c marks (e ∷ []) 1 (set marks e 0)
 freed-one c marks e h some es m u =
-    let fits : e < length marks = within marks e some in
     record {
-      so-far = λ t k. ap (λ (n : ℕ). getD (set marks e 0) t 0 + n) (occurs-last t e es) ∙ go fits t (u .so-far t k) (eqb e t) refl;
-      many = omega (arith, u .many, held-less (c .stages) e marks h fits some);
+      so-far = λ t k. said-last marks es e t ∙ go t (u .so-far t k) (eqb e t) refl;
+      many = omega (arith, u .many, held-less (c .stages) e marks h);
     }
   where
-    go : e < length marks → (t : ℕ) → getD marks t 0 + occurrences t es ≡ 1 → (b : Bool) → eqb e t ≡ b
-        → getD (set marks e 0) t 0 + (occurrences t es + cond b 1 0) ≡ 1
-    go fits t one true q =
-        let here : e ≡ t = eqb-true e t q in
-        let marked : 0 < getD marks t 0 = subst (λ (n : ℕ). 0 < getD marks n 0) here some in
-        omega (arith, sym (ap (λ (n : ℕ). getD (set marks e 0) n 0) here) ∙ getD-set-same marks e 0 0 fits)
-    go fits t one false q = omega (arith, getD-set-other marks e t 0 0 (λ z. eqb-false e t q (sym z)))
+    go : (t : ℕ) → getD marks t 0 + occurrences t es ≡ 1 → (b : Bool) → eqb e t ≡ b → cond b (occurrences t es + 1) (getD marks t 0 + occurrences t es) ≡ 1
+    go t one true q = let marked : 0 < getD marks t 0 = subst (λ (n : ℕ). 0 < getD marks n 0) (eqb-true e t q) some in omega arith
+    go t one false q = one
 
 pub freed-on : {c : Counts} {a b d xs ys : List ℕ} (m n : ℕ) → Freed c a xs m b → Freed c b ys n d → Freed c a (xs ++ ys) (m + n) d
 freed-on {c} {a} {b} {d} {xs} {ys} m n f g es k u =
     let both : Unlisted c ((es ++ xs) ++ ys) (k + m + n) d = g (es ++ xs) (k + m) (f es k u) in
     subst (λ (l : List ℕ). Unlisted c l (k + (m + n)) d) (append-assoc es xs ys) (record { so-far = both .so-far; many = omega (arith, both .many) })
 
--- a last number that is not none
-present-last : (g : ℕ → ℕ) (i k : ℕ) → (g (i + k) ≡ none → ⊥) → present (collect g i (suc k)) ≡ present (collect g i k) ++ (g (i + k) ∷ [])
+-- a last number, none or not
+pub present-last : (g : ℕ → ℕ) (i k : ℕ) → present (collect g i (suc k)) ≡ present (collect g i k) ++ present (g (i + k) ∷ [])
 unfolding present collect
-present-last g i zero h =
-    let at : i + 0 ≡ i = omega arith in
-    ap (λ (b : Bool). cond b [] (g i ∷ [])) (ne-eqb (g i) none (subst (λ (n : ℕ). g n ≡ none → ⊥) at h)) ∙ ap (λ (n : ℕ). g n ∷ []) (sym at)
-present-last g i (suc k) h =
-    go (eqb (g i) none)
-    (present-last g (suc i) k (λ e. h (ap g at ∙ e)) ∙ ap (λ (n : ℕ). present (collect g (suc i) k) ++ (g n ∷ [])) (sym at))
+present-last g i zero = ap (λ (n : ℕ). present (g n ∷ [])) (omega arith)
+present-last g i (suc k) =
+    go (eqb (g i) none) (present-last g (suc i) k ∙ ap (λ (n : ℕ). present (collect g (suc i) k) ++ present (g n ∷ [])) (omega arith))
   where
-    at : i + suc k ≡ suc i + k
-    at = omega arith
-
-    go : (b : Bool) → present (collect g (suc i) (suc k)) ≡ present (collect g (suc i) k) ++ (g (i + suc k) ∷ [])
+    go : (b : Bool) → present (collect g (suc i) (suc k)) ≡ present (collect g (suc i) k) ++ present (g (i + suc k) ∷ [])
         → cond b (present (collect g (suc i) (suc k))) (g i ∷ present (collect g (suc i) (suc k)))
-        ≡ cond b (present (collect g (suc i) k)) (g i ∷ present (collect g (suc i) k)) ++ (g (i + suc k) ∷ [])
+        ≡ cond b (present (collect g (suc i) k)) (g i ∷ present (collect g (suc i) k)) ++ present (g (i + suc k) ∷ [])
     go true r = r
     go false r = ap (λ (l : List ℕ). g i ∷ l) r
 
+-- a number that is not none is there
+pub present-one : (e : ℕ) → (e ≡ none → ⊥) → present (e ∷ []) ≡ e ∷ []
+unfolding present
+present-one e h = ap (λ (b : Bool). cond b [] (e ∷ [])) (ne-eqb e none h)
+
 -- some entries of the refs
-abbrev some : ℕ → ℕ → Run
+abbrev pub some : ℕ → ℕ → Run
 some first k = record { first = first; count = k }
+
+pub refs-last : (s : List ℕ) (c : Counts) (first k : ℕ) {e : ℕ} → e ≡ u16At s (refsAt c + 2 * first + 2 * k)
+    → present (refsFrom s c (some first k)) ++ present (e ∷ []) ≡ present (refsFrom s c (some first (k + 1)))
+refs-last s c first k read =
+    let place : refsAt c + 2 * first + 2 * k ≡ refsAt c + 2 * (first + k) = omega arith in
+    ap (λ (x : ℕ). present (refsFrom s c (some first k)) ++ present (x ∷ [])) (read ∙ ap (u16At s) place)
+    ∙ sym (present-last (λ j. u16At s (refsAt c + 2 * j)) first k)
+    ∙ sym (ap (λ (n : ℕ). present (refsFrom s c (some first n))) (add-one k))
 
 -- k entries of the refs have passed
 pub record Once (s : List ℕ) (c : Counts) (l first k : ℕ) (before marks : List ℕ) : Type 0 where
@@ -105,11 +105,9 @@ module _ {s : List ℕ} {c : Counts} {l first k : ℕ} {before marks : List ℕ}
   unfolding all
   once-on most {e} read place next below own marked after =
       let there : e ≡ u16At s (refsAt c + 2 * first + 2 * k) = read ∙ ap (u16At s) place in
-      let entry : e ≡ u16At s (refsAt c + 2 * (first + k)) = there ∙ ap (u16At s) (omega arith) in
       let list : present (refsFrom s c (some first k)) ++ (e ∷ []) ≡ present (refsFrom s c (some first (k + 1))) =
-      ap (λ (x : ℕ). present (refsFrom s c (some first k)) ++ (x ∷ [])) entry
-      ∙ sym (present-last (λ j. u16At s (refsAt c + 2 * j)) first k (λ z. omega (arith, z, below, most, entry)))
-      ∙ sym (ap (λ (n : ℕ). present (refsFrom s c (some first n))) (add-one k)) in
+      ap (λ (l : List ℕ). present (refsFrom s c (some first k)) ++ l) (sym (present-one e (λ z. omega (arith, z, below, most))))
+      ∙ refs-last s c first k there in
       rw (next, after)
       (record {
         below =

@@ -1,13 +1,11 @@
 -- Layers one after the other: each is judged good, lies behind its parent and lists its own stages, none twice.
 use mathlib.Core.Path.{_≡_, _∙_, refl, sym, ap, subst}
 use mathlib.Core.Bool.{Bool, true, false, cond, _||_}
-use mathlib.Core.List.{List, [], _∷_, _++_, append-assoc, append-nil}
+use mathlib.Core.List.{List, [], _++_}
 use Prim.Native.Nat.{ℕ, _+_, _*_, _-_, _<_, _≤_}
-use native.Mathlib.Numerals.{add-one}
 use native.Mathlib.Omega.{arith}
 use lib.Dec.{eqb, ltb}
-use lib.ListN.{length, getD, take, replicate, getD-replicate}
-use lib.Seq.{take-suc, take-append-seam}
+use lib.ListN.{length, getD, replicate, getD-replicate}
 use borrow.Author.Tests.{eq-eqb, ne-eqb, lt-ltb, ltb-true, le-leb}
 use Rattle.vir.specs.Ids.{none}
 use Rattle.records.specs.declared.layout.Counts.{Counts}
@@ -27,15 +25,16 @@ use Rattle.image.specs.Kind.{all, concat, occurrences, present}
 use Rattle.image.specs.LayerRules.{listedOnce}
 use Rattle.image.specs.Tally.{fieldIs}
 use Rattle.image.specs.View.{refsFrom, viewOf}
-use Rattle.image.specs.Vir.{Layer, layerOf, stageOf}
+use Rattle.image.specs.Vir.{layerOf, stageOf}
 use Rattle.image.proofs.Fields.{parent-at}
 use Rattle.image.proofs.Accepting.{refs-named}
 use Rattle.image.proofs.Listing.{layer-list, own-layer}
 use Rattle.image.proofs.Viewing.{length-layers, length-stages}
-use Rattle.lists.specs.Marking.{held, Unlisted}
+use Rattle.lists.specs.Marking.{held, Unlisted, Kept}
 use Rattle.lists.specs.Passing.{ran, LayersPass}
 use Rattle.lists.proofs.Freed.{Freed, freed-none, freed-on}
 use Rattle.lists.proofs.Held.{held-none, held-all}
+use Rattle.lists.proofs.Taken.{taken, taken-next, taken-all}
 
 -- a parent's test, and a layer's
 abbrev pub under : ℕ → ℕ → Bool
@@ -94,28 +93,13 @@ layer-judged s c l p refs next h first step fits parent named =
     simp (under-above (u16At s p) l (c .layers) (omega arith) parent, eq-eqb _ _ first, le-leb _ _ ends, named) in
     ap (λ (b : Bool). cond b (Next (ran (refs + u16At s (p + 2 + 2)))) Fault) good ∙ ap (λ (n : ℕ). Next (ran n)) (omega (arith, step, count))
 
--- what a last layer lists comes last
-concat-last : (ls : List Layer) (l : Layer) → concat (λ x. x .stages) (ls ++ (l ∷ [])) ≡ concat (λ x. x .stages) ls ++ l .stages
-unfolding concat
-concat-last [] l = append-nil (l .stages)
-concat-last (x ∷ ls) l =
-    ap (λ (r : List ℕ). x .stages ++ r) (concat-last ls l) ∙ sym (append-assoc (x .stages) (concat (λ x. x .stages) ls) (l .stages))
-
 -- what the first layers list
 abbrev listing : List ℕ → Counts → ℕ → List ℕ
-listing s c l = concat (λ x. x .stages) (take l (viewOf s c .layers))
+listing s c = taken (λ x. x .stages) (viewOf s c .layers)
 
 listing-next : (s : List ℕ) (c : Counts) (l : ℕ) → l < c .layers → listing s c l ++ layerOf (viewOf s c) l .stages ≡ listing s c (l + 1)
 listing-next s c l h =
-    let nothing : Layer = record { parent = none; stages = [] } in
-    sym (concat-last (take l (viewOf s c .layers)) (getD (viewOf s c .layers) l nothing))
-    ∙ sym (ap (concat (λ x. x .stages)) (take-suc (viewOf s c .layers) l nothing (omega (arith, length-layers s c))))
-    ∙ sym (ap (listing s c) (add-one l))
-
-listing-all : (s : List ℕ) (c : Counts) → listing s c (length (viewOf s c .layers)) ≡ concat (λ x. x .stages) (viewOf s c .layers)
-listing-all s c =
-    let layers : List Layer = viewOf s c .layers in
-    ap (concat (λ x. x .stages)) (sym (ap (take (length layers)) (append-nil layers)) ∙ take-append-seam layers [])
+    taken-next (λ x. x .stages) (viewOf s c .layers) l (record { parent = none; stages = [] }) (omega (arith, length-layers s c))
 
 pub record Layering (s : List ℕ) (c : Counts) (before marks : List ℕ) (l p refs : ℕ) : Type 0 where
   pub reached : l ≤ c .layers
@@ -170,7 +154,7 @@ module _ {s : List ℕ} {c : Counts} {before marks : List ℕ} {l p refs : ℕ} 
         own = subst (λ (n : ℕ). every n (owned s c) ≡ true) done (w .own);
         marked = λ u.
             let all-of-them : Unlisted c (listing s c l) (0 + refs) marks = w .freed [] 0 u in
-            subst (λ (x : List ℕ). Unlisted c x refs marks) (ap (listing s c) done ∙ listing-all s c)
+            subst (λ (x : List ℕ). Unlisted c x refs marks) (ap (listing s c) done ∙ taken-all (λ x. x .stages) (viewOf s c .layers))
             (record { so-far = all-of-them .so-far; many = omega (arith, all-of-them .many) });
       }
 
@@ -201,3 +185,7 @@ all-fresh c h =
   where
     marked : (t : ℕ) → t < c .stages → getD ones t 0 ≡ 1
     marked t k = getD-replicate 256 t 1 0 (omega arith)
+
+-- .. and each has a single one
+pub all-kept : (c : Counts) → c .stages ≤ 256 → Kept c 0 (replicate 256 1)
+all-kept c h = let u : Unlisted c [] 0 ones = all-fresh c h in record { single = λ t k. omega (arith, u .so-far t k); many = u .many }

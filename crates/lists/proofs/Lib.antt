@@ -4,3 +4,4 @@ pub mod Freed
 pub mod Held
 pub mod Layered
 pub mod Listed
+pub mod Taken

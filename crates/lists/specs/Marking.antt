@@ -2,7 +2,7 @@
 use mathlib.Core.Path.{_≡_}
 use mathlib.Core.Bool.{cond}
 use mathlib.Core.List.{List}
-use Prim.Native.Nat.{ℕ, zero, suc, _+_, _<_}
+use Prim.Native.Nat.{ℕ, zero, suc, _+_, _<_, _≤_}
 use lib.Dec.{ltb}
 use lib.ListN.{getD}
 use Rattle.records.specs.declared.layout.Counts.{Counts}
@@ -17,3 +17,12 @@ held (suc n) marks = held n marks + cond (ltb 0 (getD marks n 0)) 1 0
 pub record Unlisted (c : Counts) (es : List ℕ) (n : ℕ) (marks : List ℕ) : Type 0 where
   pub so-far : (t : ℕ) → t < c .stages → getD marks t 0 + occurrences t es ≡ 1
   pub many : held (c .stages) marks + n ≡ c .stages
+
+-- of the stages, n were found so far: those that have a 0; the others have a 1
+pub record Kept (c : Counts) (n : ℕ) (marks : List ℕ) : Type 0 where
+  pub single : (t : ℕ) → t < c .stages → getD marks t 0 ≤ 1
+  pub many : held (c .stages) marks + n ≡ c .stages
+
+-- a stage that has no mark is one of es
+abbrev pub Found : Counts → List ℕ → List ℕ → Type 0
+Found c es marks = (t : ℕ) → t < c .stages → 1 ≤ getD marks t 0 + occurrences t es

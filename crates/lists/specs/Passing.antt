@@ -8,11 +8,10 @@ use Rattle.records.specs.declared.layout.Section.the-variants.{Layers, Interfac
 use Rattle.records.specs.declared.running.Running.{Running}
 use Rattle.records.specs.declared.running.Walked.the-variants.{Clean}
 use Rattle.records.specs.Judge.{walkSection}
-use Rattle.image.specs.Kind.{listedByOwn, concat, stagesOf}
+use Rattle.image.specs.Kind.{listed, listedByOwn, concat}
 use Rattle.image.specs.LayerRules.{parentsBelow, listedByOwnLayer, interfacesLie}
-use Rattle.image.specs.Tally.{tally}
 use Rattle.image.specs.View.{viewOf}
-use Rattle.lists.specs.Marking.{held, Unlisted}
+use Rattle.lists.specs.Marking.{Unlisted}
 
 -- running places of which only that of the refs has moved
 abbrev pub ran : ℕ → Running
@@ -25,11 +24,9 @@ pub record LayersPass (s : List ℕ) (c : Counts) (before after : List ℕ) (ref
   pub own : listedByOwnLayer (viewOf s c) ≡ true
   pub marked : Unlisted c [] 0 before → Unlisted c (concat (λ l. l .stages) (viewOf s c .layers)) refs after
 
--- the interfaces are passed, from a ref up to another; each lies in a layer, where there are any, and lists its own stages, which are counted:
--- all of them, if none was before
-pub record InterfacesPass (s : List ℕ) (c : Counts) (before after : List ℕ) (from refs : ℕ) : Type 0 where
+-- the interfaces are passed, from a ref up to another; each lies in a layer, where there are any, and lists its own stages, all of which are listed
+pub record InterfacesPass (s : List ℕ) (c : Counts) (from refs : ℕ) : Type 0 where
   pub clean : walkSection s c Interfaces (ran from) ≡ Clean (ran refs)
   pub lie : (c .layers ≡ 0 → ⊥) → interfacesLie (viewOf s c) ≡ true
   pub own : listedByOwn (viewOf s c) ≡ true
-  pub counted : after ≡ tally (concat stagesOf (viewOf s c .interfaces)) before
-  pub every-one : held (c .stages) before ≡ 0 → held (c .stages) after ≡ c .stages
+  pub every-one : listed (viewOf s c) ≡ true

@@ -1,19 +1,19 @@
 // Whether every interface is good, and lists stages that have it in their own field.
 ghost use mathlib.Core.Path.{_≡_};
 ghost use mathlib.Core.Bool.{true, false, _||_};
-ghost use Prim.Native.Nat.{_+_, _*_, _≤_, _<_};
+ghost use mathlib.Core.List.{List, _++_};
+ghost use Prim.Native.Nat.{ℕ, _+_, _*_, _≤_, _<_};
 ghost use lib.Dec.{eqb};
 ghost use lib.ListN.{length};
 ghost use Rattle.vir.specs.Interface.{kindOf};
 ghost use Rattle.records.specs.Bytes.{u16At};
 ghost use Rattle.records.specs.Faults.{kindLists, entriesNamed, listAt};
-ghost use Rattle.records.specs.Layout.{interfacesAt, refsAt, interfaceSize, Sized};
+ghost use Rattle.records.specs.Layout.{interfacesAt, stagesAt, refsAt, interfaceSize, Sized};
 ghost use Rattle.records.specs.Records.{interfaceAt};
 ghost use Rattle.image.specs.Kind.{all, stagesOf};
-ghost use Rattle.image.specs.Tally.{tally};
 ghost use Rattle.image.specs.View.{viewOf};
 ghost use Rattle.image.specs.Vir.{interfaceOf, stageOf};
-ghost use Rattle.lists.specs.Marking.{held};
+ghost use Rattle.lists.specs.Marking.{Kept, Found};
 ghost use Rattle.lists.specs.Passing.{InterfacesPass};
 use crate::listing::Listed;
 use crate::listing::list_passes;
@@ -37,30 +37,31 @@ fn open_list(from: usize) -> Listed
 fn interface_passes(
     s: &[u8],
     c: Counts,
+    stages: usize,
     p: usize,
     at: usize,
     i: u16,
     from: usize,
-    counts: &mut [u8; 256],
+    marks: &mut [u8; 256],
 ) -> Listed
     requires { ⌜ Sized (now s) c ⌝ }
+    requires { ⌜ stages ≡ stagesAt c ⌝ }
     requires { ⌜ i < c .interfaces ⌝ }
     requires { ⌜ p ≡ interfacesAt c + interfaceSize * i ⌝ }
     requires { ⌜ at ≡ listAt c (interfaceAt (now s) p .list) ⌝ }
     requires { ⌜ interfaceAt (now s) p .list .first + interfaceAt (now s) p .list .count ≤ c .refs ⌝ }
-    requires { ⌜ from ≤ 65536 ⌝ }
-    requires { ⌜ length (now counts) ≡ 256 ⌝ }
+    requires { ⌜ Kept c from (now marks) ⌝ }
     ensures { λ r. ⌜ (r .ok ≡ true → (kindLists (kindOf (interfaceAt (now (s .entry)) p .kind)) (interfaceAt (now (s .entry)) p .list .count) ≡ true)
         × ((eqb (interfaceAt (now (s .entry)) p .kind) 2 || eqb (interfaceAt (now (s .entry)) p .key) 0) ≡ true)
         × (entriesNamed (now (s .entry)) c (interfaceAt (now (s .entry)) p) ≡ true)
         × (all (λ t. eqb (stageOf (viewOf (now (s .entry)) c) t .interface) i) (stagesOf (interfaceOf (viewOf (now (s .entry)) c) i)) ≡ true)
-        × (now (counts .exit) ≡ tally (stagesOf (interfaceOf (viewOf (now (s .entry)) c) i)) (now (counts .entry)))
-        × (held (c .stages) (now (counts .exit)) + from ≡ held (c .stages) (now (counts .entry)) + r .seen)) ⌝ }
+        × Kept c (r .seen) (now (marks .exit))
+        × ((es : List ℕ) → Found c es (now (marks .entry)) → Found c (es ++ stagesOf (interfaceOf (viewOf (now (s .entry)) c) i)) (now (marks .exit)))) ⌝ }
 {
     let kind = s[p + 2];
     let run = Run::read(s, p + 5);
     if kind == 2 {
-        return list_passes(s, c, at, run, i, false, from, counts);
+        return list_passes(s, c, stages, at, run, i, false, from, marks);
     }
     if u16_at(s, p + 3) != 0 {
         return open_list(from);
@@ -69,7 +70,7 @@ fn interface_passes(
         if run.count != (kind as u16) + 1 {
             return open_list(from);
         }
-        return list_passes(s, c, at, run, i, false, from, counts);
+        return list_passes(s, c, stages, at, run, i, false, from, marks);
     }
     if kind == 4 {
         return Listed {
@@ -86,7 +87,7 @@ fn interface_passes(
     if c.stages <= u16_at(s, at) {
         return open_list(from);
     }
-    list_passes(s, c, at, run, i, true, from, counts)
+    list_passes(s, c, stages, at, run, i, true, from, marks)
 }
 
 fn lies(s: &[u8], c: Counts, p: usize) -> bool
@@ -103,23 +104,26 @@ fn lies(s: &[u8], c: Counts, p: usize) -> bool
 pub fn pass_interfaces(
     s: &[u8],
     c: Counts,
+    stages: usize,
     at: usize,
     base: usize,
     from: usize,
-    counts: &mut [u8; 256],
+    marks: &mut [u8; 256],
 ) -> usize
     requires { ⌜ Sized (now s) c ⌝ }
+    requires { ⌜ stages ≡ stagesAt c ⌝ }
     requires { ⌜ at ≡ interfacesAt c ⌝ }
     requires { ⌜ base ≡ refsAt c ⌝ }
-    requires { ⌜ length (now counts) ≡ 256 ⌝ }
-    ensures { λ r. ⌜ (r ≤ c .refs → InterfacesPass (now (s .entry)) c (now (counts .entry)) (now (counts .exit)) from r) ⌝ }
+    requires { ⌜ from ≤ c .refs ⌝ }
+    requires { ⌜ Kept c 0 (now marks) ⌝ }
+    ensures { λ r. ⌜ (r ≤ c .refs → InterfacesPass (now (s .entry)) c from r) ⌝ }
 {
     let mut i: u16 = 0;
     let mut p = at;
     let mut refs = from;
     let mut seen: usize = 0;
     while i < c.interfaces {
-        if (u16_at(s, p + 5) as usize) != refs {
+        if u16_at(s, p + 5) != (refs as u16) {
             return UNTOLD;
         }
         let next = refs + (u16_at(s, p + 7) as usize);
@@ -129,7 +133,7 @@ pub fn pass_interfaces(
         if !lies(s, c, p) {
             return UNTOLD;
         }
-        let found = interface_passes(s, c, p, base + 2 * refs, i, seen, counts);
+        let found = interface_passes(s, c, stages, p, base + 2 * refs, i, seen, marks);
         if !found.ok {
             return UNTOLD;
         }

@@ -112,7 +112,7 @@ pub fn pass_layers(s: &[u8], c: Counts, stages: usize, base: usize, marks: &mut 
     let mut p = HEAD;
     let mut refs: usize = 0;
     while l < c.layers {
-        if (u16_at(s, p + 2) as usize) != refs {
+        if u16_at(s, p + 2) != (refs as u16) {
             return UNTOLD;
         }
         let next = refs + (u16_at(s, p + 4) as usize);

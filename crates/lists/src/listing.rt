@@ -1,91 +1,91 @@
-// Lists of stages: each entry names one, which has its owner in a field of its own, and is counted.
+// Lists of stages: each entry names one, which has its owner in a field of its own, and loses its mark.
 ghost use mathlib.Core.Path.{_≡_};
-ghost use mathlib.Core.Bool.{true, false, cond};
+ghost use mathlib.Core.Bool.{true, false};
+ghost use mathlib.Core.List.{List, [], _∷_, _++_};
 ghost use Prim.Native.Nat.{ℕ, _+_, _≤_, _<_};
-ghost use lib.ListN.{length};
 ghost use Rattle.records.specs.Faults.{refsBelow, listAt};
-ghost use Rattle.records.specs.Layout.{Sized};
+ghost use Rattle.records.specs.Layout.{stagesAt, Sized};
 ghost use Rattle.image.specs.Accepted.{NamedOrNone, entryAt};
 ghost use Rattle.image.specs.Kind.{all, present};
-ghost use Rattle.image.specs.Tally.{tally, fieldIs, tallyEntry, owns};
+ghost use Rattle.image.specs.Tally.{fieldIs};
 ghost use Rattle.image.specs.View.{refsFrom};
-ghost use Rattle.lists.specs.Marking.{held};
-use image::tally::tally_stage;
+ghost use Rattle.lists.specs.Marking.{Kept, Found};
+use crate::untold::UNTOLD;
 use records::bytes::u16_at;
 use records::layout::Counts;
+use records::layout::STAGE;
 use records::record::Run;
 
-// Whether an entry passes, and whether its stage was not counted before.
-struct Entry {
-    ok: bool,
-    new: bool,
-}
-
-// Whether a list passes, and how many stages were counted so far.
+// Whether a list passes, and how many stages were found so far.
 pub struct Listed {
     pub ok: bool,
     pub seen: usize,
 }
 
-// Only a Closure's fork and drop may be none: `gaps`.
+// How many stages the entry finds that were not found before, or UNTOLD. Only a Closure's fork and drop may be none: `gaps`.
 fn entry_passes(
     s: &[u8],
     c: Counts,
+    stages: usize,
     owner: u16,
     e: u16,
     gaps: bool,
-    counts: &mut [u8; 256],
-) -> Entry
+    marks: &mut [u8; 256],
+) -> usize
     requires { ⌜ Sized (now s) c ⌝ }
-    requires { ⌜ length (now counts) ≡ 256 ⌝ }
-    ensures { λ r. ⌜ (r .ok ≡ true → NamedOrNone e (c .stages) × (gaps ≡ false → e < c .stages)
-        × (owns (fieldIs (now (s .entry)) c 4 owner) e true ≡ true) × (now (counts .exit) ≡ tallyEntry e (now (counts .entry)))
-        × (held (c .stages) (now (counts .exit)) ≡ held (c .stages) (now (counts .entry)) + cond (r .new) 1 0)) ⌝ }
+    requires { ⌜ stages ≡ stagesAt c ⌝ }
+    ensures { λ r. ⌜ (r < 65536 → NamedOrNone e (c .stages) × (gaps ≡ false → e < c .stages)
+        × (all (fieldIs (now (s .entry)) c 4 owner) (present (e ∷ [])) ≡ true)
+        × ((n : ℕ) → Kept c n (now (marks .entry)) → Kept c (n + r) (now (marks .exit)))
+        × ((es : List ℕ) → Found c es (now (marks .entry)) → Found c (es ++ present (e ∷ [])) (now (marks .exit)))) ⌝ }
 {
     if e < c.stages {
         let i = e as usize;
-        let new = counts[i] == 0;
-        let ok = tally_stage(s, c, 4, owner, e, counts);
-        return Entry { ok, new };
+        let mark = &mut marks[i];
+        let new = *mark;
+        *mark = 0;
+        if u16_at(s, stages + STAGE * i + 4) != owner {
+            return UNTOLD;
+        }
+        return new as usize;
     }
-    Entry {
-        ok: (e == 65535) & gaps,
-        new: false,
+    if (e == 65535) & gaps {
+        return 0;
     }
+    UNTOLD
 }
 
 pub fn list_passes(
     s: &[u8],
     c: Counts,
+    stages: usize,
     at: usize,
     run: Run,
     owner: u16,
     gaps: bool,
     from: usize,
-    counts: &mut [u8; 256],
+    marks: &mut [u8; 256],
 ) -> Listed
     requires { ⌜ Sized (now s) c ⌝ }
+    requires { ⌜ stages ≡ stagesAt c ⌝ }
     requires { ⌜ at ≡ listAt c run ⌝ }
     requires { ⌜ run .first + run .count ≤ c .refs ⌝ }
-    requires { ⌜ from ≤ 65536 ⌝ }
-    requires { ⌜ length (now counts) ≡ 256 ⌝ }
+    requires { ⌜ Kept c from (now marks) ⌝ }
     ensures { λ r. ⌜ (r .ok ≡ true → ((k : ℕ) → k < run .count → NamedOrNone (entryAt (now (s .entry)) c run k) (c .stages))
         × (gaps ≡ false → refsBelow (now (s .entry)) c run (c .stages) ≡ true)
         × (all (fieldIs (now (s .entry)) c 4 owner) (present (refsFrom (now (s .entry)) c run)) ≡ true)
-        × (now (counts .exit) ≡ tally (present (refsFrom (now (s .entry)) c run)) (now (counts .entry)))
-        × (held (c .stages) (now (counts .exit)) + from ≡ held (c .stages) (now (counts .entry)) + r .seen)) ⌝ }
+        × Kept c (r .seen) (now (marks .exit))
+        × ((es : List ℕ) → Found c es (now (marks .entry)) → Found c (es ++ present (refsFrom (now (s .entry)) c run)) (now (marks .exit)))) ⌝ }
 {
     let mut left = run.count;
     let mut p = at;
     let mut seen = from;
     while left != 0 {
-        let entry = entry_passes(s, c, owner, u16_at(s, p), gaps, counts);
-        if !entry.ok {
+        let new = entry_passes(s, c, stages, owner, u16_at(s, p), gaps, marks);
+        if UNTOLD <= new {
             return Listed { ok: false, seen };
         }
-        if entry.new {
-            seen += 1;
-        }
+        seen += new;
         p += 2;
         left -= 1;
     }

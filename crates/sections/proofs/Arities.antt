@@ -51,49 +51,28 @@ few-ports tag h = (
   leb-true _ 65535 (every-at (λ k. leb (getD leastPorts k 0 + getD slackPorts k 0) 65535) 21 tag refl (omega arith)),
 )
 
--- .. and no header more than two
-pub few-header : {least slack : List ℕ} (tag : ℕ) → least ≡ headerLeast → slack ≡ headerSlack → tag ≤ 7
-    → (getD least tag 0 ≤ 131072) × (getD slack tag 0 ≤ 65535)
-unfolding every
-few-header tag e f h =
-    let few : getD headerLeast tag 0 ≤ 131072 = leb-true _ 131072 (every-at (λ k. leb (getD headerLeast k 0) 131072) 8 tag refl (omega arith)) in
-    let more : getD headerSlack tag 0 ≤ 65535 = leb-true _ 65535 (every-at (λ k. leb (getD headerSlack k 0) 65535) 8 tag refl (omega arith)) in
-    (omega (arith, few, ap (λ (t : List ℕ). getD t tag 0) e), omega (arith, more, ap (λ (t : List ℕ). getD t tag 0) f))
-
--- the list at a place fits a header's entries of two tables
-abbrev Fitting : List ℕ → List ℕ → List ℕ → ℕ → ℕ → ℕ → Type 0
-Fitting least slack s p ports tag =
-    (n : ℕ) → getD least tag 0 ≡ 65536 * n → n + getD slack tag 0 ≤ 65535 → Fits s p ports n (getD slack tag 0)
-
-module _ (s : List ℕ) (p ports : ℕ) where
-  abbrev m : ℕ
-  m = u16At s (p + 2)
-
-  -- a header whose list fits starts where it is due and has its ports
+-- a header with its entries of the tables: 0, 1, 1 or more, 1, 1 or more, 2, 0, any
+module _ (m d : ℕ) where
+  -- the count m is off from the least by a word d, which may be at most the slack
   abbrev Has : ℕ → Type 0
-  Has tag = Fitting headerLeast headerSlack s p ports tag → (u16At s p ≡ ports) × (headerHas (headerOf tag) m ≡ true)
+  Has tag = (d + getD headerLeast tag 0) % 4294967296 ≡ m → d ≤ getD headerSlack tag 0 → headerHas (headerOf tag) m ≡ true
 
-  -- 0, 1, 1 or more, 1, 1 or more, 2, 0, any
   header-has : (tag : ℕ) → tag < 8 → Has tag
   unfolding headerOf
   header-has =
       let matches : Each Has 4 = ((((tt, exactly 0 (omega arith)), exactly 1 (omega arith)), some), exactly 1 (omega arith)) in
-      each-at Has 8 ((((matches, some), exactly 2 (omega arith)), exactly 0 (omega arith)), any)
+      each-at Has 8 ((((matches, some), exactly 2 (omega arith)), exactly 0 (omega arith)), λ e h. le-leb 0 m (omega arith))
     where
-      exactly : (k : ℕ) → k ≤ 65535 → ((n : ℕ) → 65536 * k ≡ 65536 * n → n + 0 ≤ 65535 → Fits s p ports n 0) → (u16At s p ≡ ports) × (eqb m k ≡ true)
-      exactly k l f = let q = f k refl (omega arith) in (q .0, eq-eqb m k (omega (arith, q .1, q .2)))
+      exactly : (k : ℕ) → k ≤ 2 → (d + k) % 4294967296 ≡ m → d ≤ 0 → eqb m k ≡ true
+      exactly k l e h = eq-eqb m k (omega arith)
 
-      some : ((n : ℕ) → 65536 ≡ 65536 * n → n + 65534 ≤ 65535 → Fits s p ports n 65534) → (u16At s p ≡ ports) × (leb 1 m ≡ true)
-      some f = let q = f 1 refl (omega arith) in (q .0, le-leb 1 m (q .1))
-
-      any : ((n : ℕ) → 0 ≡ 65536 * n → n + 65535 ≤ 65535 → Fits s p ports n 65535) → (u16At s p ≡ ports) × (leb 0 m ≡ true)
-      any f = let q = f 0 refl (omega arith) in (q .0, le-leb 0 m (q .1))
+      some : (d + 1) % 4294967296 ≡ m → d ≤ 65534 → leb 1 m ≡ true
+      some e h = le-leb 1 m (omega arith)
 
 -- what the code reads of the tables
-pub header-fits : (s : List ℕ) (p ports tag : ℕ) {least slack : List ℕ} → least ≡ headerLeast → slack ≡ headerSlack → tag ≤ 7
-    → Fitting least slack s (p + 13) ports tag → (u16At s (p + 13) ≡ ports) × (headerHas (headerOf tag) (u16At s (p + 15)) ≡ true)
-header-fits s p ports tag {least} e f h fits =
-    let same : p + 15 ≡ p + 13 + 2 = omega arith in
-    let told = header-has s (p + 13) ports tag (omega arith)
-    (subst (λ (t : List ℕ). Fitting t headerSlack s (p + 13) ports tag) e (subst (λ (t : List ℕ). Fitting least t s (p + 13) ports tag) f fits)) in
-    (told .0, ap (λ (k : ℕ). headerHas (headerOf tag) (u16At s k)) same ∙ told .1)
+pub header-told : (m d tag : ℕ) {least slack : List ℕ} → least ≡ headerLeast → slack ≡ headerSlack → tag ≤ 7
+    → (d + getD least tag 0) % 4294967296 ≡ m → d ≤ getD slack tag 0 → headerHas (headerOf tag) m ≡ true
+header-told m d tag e f h w o =
+    header-has m d tag (omega arith)
+    (sym (ap (λ (t : List ℕ). (d + getD t tag 0) % 4294967296) e) ∙ w)
+    (subst (λ (t : List ℕ). d ≤ getD t tag 0) f o)

@@ -1,12 +1,7 @@
 pub mod Ahead
 pub mod Arities
-pub mod Ending
 pub mod Going
-pub mod Jumping
-pub mod Marked
 pub mod Rising
 pub mod Staging
-pub mod Stepping
 pub mod Tabled
-pub mod Turning
-pub mod Words
+pub mod Wiring

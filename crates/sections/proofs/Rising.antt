@@ -4,7 +4,6 @@ use mathlib.Core.Bool.{Bool, true, cond, _&&_}
 use mathlib.Core.List.{List}
 use Prim.Native.Nat.{ℕ, zero, suc, _+_, _-_, _≤_}
 use native.Mathlib.Omega.{arith}
-use lib.ListN.{length}
 use borrow.Author.Tests.{eq-eqb, le-leb}
 use Rattle.records.specs.declared.layout.Counts.{Counts}
 use Rattle.records.specs.declared.layout.Section.the-variants.{Steps}
@@ -28,17 +27,12 @@ placed x y ports = record { refs = x; steps = y; ports = ports }
 pub rising-start : (s : List ℕ) (c : Counts) (from : ℕ) {p : ℕ} → Sized s c → p ≡ stepsAt c → Rising s c from (c .steps) p from
 rising-start s c from z k = rw k (record { room = omega (arith, z .long); ahead = λ x y h. refl })
 
-module _ {s : List ℕ} {c : Counts} {from left p ports : ℕ} (w : Rising s c from left p ports) where
-  -- a step that is left lies in the image
-  pub rising-room : (left ≡ 0 → ⊥) → p + 11 ≤ length s
-  rising-room h = omega (arith, w .room)
-
-  -- none is left, and the ports end where their section does: the section is clean
-  pub rising-end : left ≡ 0 → ports ≡ c .ports → (x y : ℕ)
-      → walkSection s c Steps (record { refs = x; steps = y; ports = from }) ≡ Clean (record { refs = x; steps = y; ports = c .ports })
-  unfolding walk
-  rising-end h e x y =
-      sym (w .ahead x y (omega (arith, e))) ∙ ap₂ (λ (k q : ℕ). walk (judge Steps s c) stepSize k p (placed x y q)) h e
+-- none is left, and the ports end where their section does: the section is clean
+pub rising-end : {s : List ℕ} {c : Counts} {from left p ports : ℕ} → Rising s c from left p ports → left ≡ 0 → ports ≡ c .ports → (x y : ℕ)
+    → walkSection s c Steps (record { refs = x; steps = y; ports = from }) ≡ Clean (record { refs = x; steps = y; ports = c .ports })
+unfolding walk
+rising-end {s} {c} {p = p} w h e x y =
+    sym (w .ahead x y (omega (arith, e))) ∙ ap₂ (λ (k q : ℕ). walk (judge Steps s c) stepSize k p (placed x y q)) h e
 
 -- a good step that is laid where it is due moves the place of the ports on
 step-passed : (c : Counts) (r : Running) (t : StepRecord) {n : ℕ} → stepFields c t ≡ true → t .ports .first ≡ r .ports → n ≡ t .ports .count
@@ -68,3 +62,13 @@ rising-on {s} {c} {from} {left = suc m} {p} {ports} {n} w h g e =
           (step-passed c (placed x y ports) (stepAt s p) (g within .1) (g within .0) (e ∙ ap (u16At s) place) k))
           ∙ w .ahead x y within;
     }
+
+-- .. and so are two in a row
+pub rising-two : {s : List ℕ} {c : Counts} {from left p ports n k : ℕ} → Rising s c from left p ports → 2 ≤ left
+    → (ports ≤ c .ports → (u16At s (p + 7) ≡ ports) × (stepFields c (stepAt s p) ≡ true)) → n ≡ u16At s (p + 9)
+    → (ports + n ≤ c .ports → (u16At s (p + 11 + 7) ≡ ports + n) × (stepFields c (stepAt s (p + 11)) ≡ true)) → k ≡ u16At s (p + 11 + 9)
+    → Rising s c from (left - 2) (p + 22) (ports + n + k)
+rising-two {left = left} {p} w h g e g′ e′ =
+    let less : left - 1 - 1 ≡ left - 2 = omega arith in
+    let on : p + 11 + 11 ≡ p + 22 = omega arith in
+    rw (sym less, sym on) (rising-on (rising-on w (omega arith) g e) (omega arith) g′ e′)

@@ -93,25 +93,28 @@ stage-judged s c p r h f n l w =
 abbrev bareAt : List ℕ → Counts → ℕ → Bool
 bareAt s c t = eqb (u16At s (stagesAt c + stageSize * t + 27)) none
 
+-- a running place starts at most at 2048, and a stage adds at most 65535 and 255 to it
+abbrev pub Low : ℕ → Running → Type 0
+Low left r = (r .refs + 65790 * left ≤ 16844288) × (r .steps + 65790 * left ≤ 16844288) × (r .ports + 65790 * left ≤ 16844288)
+
 -- the stages from a place on, the refs having been passed up to one
 pub record Staging (s : List ℕ) (c : Counts) (from left p : ℕ) (r : Running) : Type 0 where
   pub going : Going s c Stages (walkSection s c Stages (ran from)) left p r
   pub few : left ≤ c .stages
   pub place : p ≡ stagesAt c + stageSize * (c .stages - left)
   pub past : from ≤ r .refs
-  -- a stage has at most 65535 ports and 255 behind them
-  pub low : r .ports + 65790 * left ≤ 16842240
+  pub low : Low left r
   pub flat : c .layers ≡ 0 → every (c .stages - left) (bareAt s c) ≡ true
 
-pub staging-start : (s : List ℕ) (c : Counts) (from : ℕ) {left p : ℕ} → Sized s c → left ≡ c .stages → p ≡ stagesAt c
+pub staging-start : (s : List ℕ) (c : Counts) (from : ℕ) {left p : ℕ} → Sized s c → left ≡ c .stages → p ≡ stagesAt c → from ≤ c .refs
     → Staging s c from left p (ran from)
-staging-start s c from {left} z e k =
+staging-start s c from {left} z e k h =
     record {
       going = going-start s c Stages (ran from) z e k;
       few = omega (arith, e);
       place = omega (arith, e, k);
       past = omega arith;
-      low = omega (arith, e, z .stages);
+      low = (omega (arith, e, z .stages, h, z .refs), omega (arith, e, z .stages), omega (arith, e, z .stages));
       flat = λ f. every-end (bareAt s c) (c .stages - left) 0 (omega (arith, e)) (omega arith) (every-zero (bareAt s c));
     }
 
@@ -121,7 +124,8 @@ module _ {s : List ℕ} {c : Counts} {from left p : ℕ} {r : Running} (w : Stag
 
   pub staging-on : Sized s c → Bytes s → (left ≡ 0 → ⊥) → Named s c from
       → (r .ports < 65536 → (u16At s (p + 13) ≡ r .ports) × (stageNamed c (stageAt s p) ≡ true)) × (c .layers ≡ 0 → u16At s (p + 27) ≡ none)
-      → (u16At s (p + 17) ≡ r .refs) × (u16At s (p + 21) ≡ r .steps) → {d t n : ℕ} → d ≡ u16At s (p + 19) → t ≡ u16At s (p + 23) → n ≡ u16At s (p + 15)
+      → (r .refs < 65536 → u16At s (p + 17) ≡ r .refs) × (r .steps < 65536 → u16At s (p + 21) ≡ r .steps)
+      → {d t n : ℕ} → d ≡ u16At s (p + 19) → t ≡ u16At s (p + 23) → n ≡ u16At s (p + 15)
       → Staging s c from (left - 1) (p + 30)
       (record { refs = r .refs + d; steps = r .steps + t; ports = r .ports + n + u8At s (p + 29) })
   staging-on z b h m g l {d} {t} {n} e f k =
@@ -136,11 +140,16 @@ module _ {s : List ℕ} {c : Counts} {from left p : ℕ} {r : Running} (w : Stag
             (λ q. (omega (arith, q .0), omega (arith, q .1), omega (arith, q .2)))
             (λ q.
             let stage = g .0 (omega (arith, q .2, z .ports)) in
-            stage-judged s c p r m (w .past) (stage .1) (stage .0, l .0, l .1) q);
+            stage-judged s c p r m (w .past) (stage .1)
+            (stage .0, l .0 (omega (arith, q .0, z .refs)), l .1 (omega (arith, q .1, z .steps))) q);
         few = omega (arith, w .few);
         place = omega (arith, w .place, more);
         past = omega (arith, w .past);
-        low = omega (arith, h, w .low, half-below s b (p + 13 + 2), b (p + 29));
+        low = (
+          omega (arith, h, w .low .0, half-below s b (p + 17 + 2)),
+          omega (arith, h, w .low .1, half-below s b (p + 21 + 2)),
+          omega (arith, h, w .low .2, half-below s b (p + 13 + 2), b (p + 29)),
+        );
         flat =
             λ y.
             ap (λ (i : ℕ). every i (bareAt s c)) more

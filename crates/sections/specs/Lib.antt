@@ -1,3 +1,2 @@
-pub mod Jumping
 pub mod Passing
 pub mod Tables

@@ -1,4 +1,4 @@
--- Document 01, "step 11" and "stage 30", by tag: how many ports at least, how many more, and what b is below.
+-- Document 01, "step 11", "stage 30" and "port 9", by tag or kind: how many ports at least, how many more, and what b may be.
 use mathlib.Core.Path.{_≡_}
 use mathlib.Core.List.{List, [], _∷_}
 use Prim.Native.Nat.{ℕ, _+_, _≤_}
@@ -18,12 +18,16 @@ limitOf c =
     c .locals ∷ c .locals ∷ c .locals ∷ c .locals ∷ c .locals ∷ c .locals ∷ 0
     ∷ 0 ∷ 1 ∷ 1 ∷ 1 ∷ 1 ∷ 1 ∷ 1 ∷ 1 ∷ 1 ∷ 1 ∷ 1 ∷ 1 ∷ 1 ∷ 1 ∷ []
 
--- header ports: 0, 1, 1 or more, 1, 1 or more, 2, 0, any; the least in the upper half of a word, as a count is
+-- header ports: 0, 1, 1 or more, 1, 1 or more, 2, 0, any
 abbrev pub headerLeast : List ℕ
-headerLeast = 0 ∷ 65536 ∷ 65536 ∷ 65536 ∷ 65536 ∷ 131072 ∷ 0 ∷ 0 ∷ []
+headerLeast = 0 ∷ 1 ∷ 1 ∷ 1 ∷ 1 ∷ 2 ∷ 0 ∷ 0 ∷ []
 
 abbrev pub headerSlack : List ℕ
 headerSlack = 0 ∷ 0 ∷ 65534 ∷ 0 ∷ 65534 ∷ 0 ∷ 0 ∷ 65535 ∷ []
+
+-- a port's b is at most this, by kind: only a Wire has one
+abbrev pub mostB : List ℕ
+mostB = 0 ∷ 0 ∷ 0 ∷ 0 ∷ 0 ∷ 0 ∷ 65535 ∷ 0 ∷ []
 
 -- a list, first and count at a place, starts where it is due and has from so many to so many more
 abbrev pub Fits : List ℕ → ℕ → ℕ → ℕ → ℕ → Type 0

@@ -100,7 +100,7 @@ pub fn limits(c: Counts) -> [u16; 21]
 }
 
 // The list whose first and count stand at p. What is off in the first comes to lie above what is off in the count.
-pub fn list_fits(s: &[u8], p: usize, ports: u32, least: u32, slack: u64) -> bool
+fn list_fits(s: &[u8], p: usize, ports: u32, least: u32, slack: u64) -> bool
     requires { ⌜ p + 4 ≤ length (now s) ⌝ }
     requires { ⌜ ports + least ≤ 4294967295 ⌝ }
     ensures { λ b. ⌜ (b ≡ true → (n : ℕ) → least ≡ 65536 * n → n + slack ≤ 65535 → ports < 65536 → Fits (now (s .entry)) p ports n slack) ⌝ }

@@ -1,8 +1,6 @@
 // The sections behind the interfaces: one look at each record, and no place to tell.
 pub mod arity;
-pub mod jumps;
 pub mod locals;
 pub mod ports;
-pub mod runs;
 pub mod stages;
 pub mod steps;

@@ -1,40 +1,20 @@
 // Whether every port is good.
 ghost use mathlib.Core.Path.{_≡_};
-ghost use mathlib.Core.Bool.{true, _&&_, _||_};
+ghost use mathlib.Core.Bool.{true};
 ghost use Prim.Native.Nat.{_+_, _*_, _≤_};
-ghost use lib.Dec.{eqb, leb};
 ghost use lib.ListN.{length};
-ghost use Rattle.records.specs.Bytes.{u8At, u16At, u32At};
+ghost use Rattle.records.specs.Bytes.{u16At};
 ghost use Rattle.records.specs.Faults.{typeNamed};
 ghost use Rattle.records.specs.Judge.{judge, walk, walkSection};
 ghost use Rattle.records.specs.Layout.{countsOf, portsAt, portSize, Sized};
+ghost use Rattle.sections.specs.Tables.{mostB};
 use records::bytes::u16_at;
-use records::bytes::u32_at;
 use records::layout::Counts;
 use records::layout::PORT;
 use records::layout::Section;
 use records::running::Judged;
 use records::running::Running;
 use records::running::Walked;
-
-fn u64_at(s: &[u8], p: usize) -> u64
-    requires { ⌜ p + 8 ≤ length (now s) ⌝ }
-    ensures { λ r. ⌜ r ≡ u32At (now (s .entry)) p + 4294967296 * u32At (now (s .entry)) (p + 4) ⌝ }
-{
-    let low = u32_at(s, p);
-    let high = u32_at(s, p + 4);
-    (low as u64) + 4294967296 * (high as u64)
-}
-
-// What a port has that only a Wire may have, kind and b in one word; chosen with no branch, since kinds come in no order.
-fn odd(s: &[u8], p: usize) -> u64
-    requires { ⌜ p + 9 ≤ length (now s) ⌝ }
-    ensures { λ r. ⌜ (r ≡ 0 → (leb (u8At (now (s .entry)) (p + 2)) 7 && (eqb (u8At (now (s .entry)) (p + 2)) 6 || eqb (u16At (now (s .entry)) (p + 7)) 0)) ≡ true) ⌝ }
-{
-    let word = u64_at(s, p + 1);
-    let rest = word / 281474976710656 * 281474976710656 + word % 65536 / 2048 * 2048;
-    if s[p + 2] == 6 { 0 } else { rest }
-}
 
 fn typed(s: &[u8], c: Counts, p: usize) -> bool
     requires { ⌜ p + 2 ≤ length (now s) ⌝ }
@@ -43,45 +23,55 @@ fn typed(s: &[u8], c: Counts, p: usize) -> bool
     u16_at(s, p) % 32768 < c.types
 }
 
-fn port_passes(s: &[u8], c: Counts, p: usize) -> bool
+// `most` is what b may be, by kind: a table, since kinds come in no order.
+fn port_passes(s: &[u8], c: Counts, p: usize, most: &[u16; 8]) -> bool
     requires { ⌜ p + 9 ≤ length (now s) ⌝ }
+    requires { ⌜ now most ≡ mostB ⌝ }
     ensures { λ b. ⌜ (b ≡ true → (r : Running) → judge Section.Ports (now (s .entry)) c p r ≡ Judged.Next r) ⌝ }
 {
     if !typed(s, c, p) {
         return false;
     }
-    odd(s, p) == 0
-}
-
-// Two ports, with one branch for what is odd in them.
-fn pair_passes(s: &[u8], c: Counts, p: usize) -> bool
-    requires { ⌜ p + 18 ≤ length (now s) ⌝ }
-    ensures { λ b. ⌜ (b ≡ true → (r : Running) → (judge Section.Ports (now (s .entry)) c p r ≡ Judged.Next r)
-        × (judge Section.Ports (now (s .entry)) c (p + 9) r ≡ Judged.Next r)) ⌝ }
-{
-    if !typed(s, c, p) {
+    let kind = s[p + 2];
+    if 7 < kind {
         return false;
     }
-    if !typed(s, c, p + PORT) {
-        return false;
-    }
-    (odd(s, p) == 0) & (odd(s, p + PORT) == 0)
+    let i = kind as usize;
+    u16_at(s, p + 7) <= most[i]
 }
 
-fn few_ports(s: &[u8], c: Counts, at: usize, count: u16) -> bool
+fn few_ports(s: &[u8], c: Counts, at: usize, count: u16, most: &[u16; 8]) -> bool
     requires { ⌜ at + portSize * count ≤ length (now s) ⌝ }
+    requires { ⌜ now most ≡ mostB ⌝ }
     ensures { λ b. ⌜ (b ≡ true → (r : Running) → walk (judge Section.Ports (now (s .entry)) c) portSize count at r ≡ Walked.Clean r) ⌝ }
 {
     let mut left = count;
     let mut p = at;
     while left != 0 {
-        if !port_passes(s, c, p) {
+        if !port_passes(s, c, p, most) {
             return false;
         }
         p += PORT;
         left -= 1;
     }
     true
+}
+
+fn four_pass(s: &[u8], c: Counts, p: usize, most: &[u16; 8]) -> bool
+    requires { ⌜ p + 36 ≤ length (now s) ⌝ }
+    requires { ⌜ now most ≡ mostB ⌝ }
+    ensures { λ b. ⌜ (b ≡ true → (r : Running) → walk (judge Section.Ports (now (s .entry)) c) portSize 4 p r ≡ Walked.Clean r) ⌝ }
+{
+    if !port_passes(s, c, p, most) {
+        return false;
+    }
+    if !port_passes(s, c, p + PORT, most) {
+        return false;
+    }
+    if !port_passes(s, c, p + 2 * PORT, most) {
+        return false;
+    }
+    port_passes(s, c, p + 3 * PORT, most)
 }
 
 // Four at a time: a quarter of the turns. The counts are read anew: what is needed here alone is not kept from the start.
@@ -91,17 +81,15 @@ pub fn pass_ports(s: &[u8], at: usize) -> bool
     ensures { λ b. ⌜ (b ≡ true → (r : Running) → walkSection (now (s .entry)) (countsOf (now (s .entry))) Section.Ports r ≡ Walked.Clean r) ⌝ }
 {
     let c = Counts::read(s);
+    let most: [u16; 8] = [0, 0, 0, 0, 0, 0, 65535, 0];
     let mut left = c.ports;
     let mut p = at;
     while 4 <= left {
-        if !pair_passes(s, c, p) {
-            return false;
-        }
-        if !pair_passes(s, c, p + 2 * PORT) {
+        if !four_pass(s, c, p, &most) {
             return false;
         }
         p += 4 * PORT;
         left -= 4;
     }
-    few_ports(s, c, p, left)
+    few_ports(s, c, p, left, &most)
 }

@@ -13,7 +13,6 @@ ghost use Rattle.records.specs.Records.{stageAt};
 ghost use Rattle.lists.specs.Passing.{ran};
 ghost use Rattle.sections.specs.Passing.{Within, bare};
 ghost use Rattle.sections.specs.Tables.{headerLeast, headerSlack};
-use crate::arity::list_fits;
 use lists::untold::UNTOLD;
 use records::bytes::u16_at;
 use records::layout::Counts;
@@ -21,6 +20,7 @@ use records::layout::STAGE;
 use records::layout::Section;
 use records::running::Running;
 use records::running::Walked;
+use std::num::wrapping_sub_u32;
 
 // Many are tested at a time.
 fn many_refs(s: &[u8], locals: u16, p: usize, n: usize) -> bool
@@ -107,8 +107,11 @@ fn header_passes(s: &[u8], p: usize, ports: u32, least: &[u32; 8], slack: &[u32;
     if 7 < tag {
         return false;
     }
+    if u16_at(s, p + 13) != ((ports % 65536) as u16) {
+        return false;
+    }
     let i = tag as usize;
-    list_fits(s, p + 13, ports, least[i], slack[i] as u64)
+    wrapping_sub_u32(u16_at(s, p + 15) as u32, least[i]) <= slack[i]
 }
 
 fn stage_passes(
@@ -140,22 +143,23 @@ fn stage_passes(
 
 fn lists_pass(s: &[u8], p: usize, r: Running) -> bool
     requires { ⌜ p + 30 ≤ length (now s) ⌝ }
-    ensures { λ b. ⌜ (b ≡ true → (u16At (now (s .entry)) (p + 17) ≡ r .refs) × (u16At (now (s .entry)) (p + 21) ≡ r .steps)) ⌝ }
+    ensures { λ b. ⌜ (b ≡ true → (r .refs < 65536 → u16At (now (s .entry)) (p + 17) ≡ r .refs) × (r .steps < 65536 → u16At (now (s .entry)) (p + 21) ≡ r .steps)) ⌝ }
 {
-    if (u16_at(s, p + 17) as usize) != r.refs {
+    if u16_at(s, p + 17) != ((r.refs % 65536) as u16) {
         return false;
     }
-    (u16_at(s, p + 21) as usize) == r.steps
+    u16_at(s, p + 21) == ((r.steps % 65536) as u16)
 }
 
 pub fn pass_stages(s: &[u8], c: Counts, at: usize, from: usize) -> Running
     requires { ⌜ Sized (now s) c ⌝ }
     requires { ⌜ at ≡ stagesAt c ⌝ }
+    requires { ⌜ from ≤ c .refs ⌝ }
     requires { ⌜ ((k : ℕ) → from ≤ k → k < c .refs → u16At (now s) (refsAt c + 2 * k) < c .locals) ⌝ }
     ensures { λ r. ⌜ (Within c r → (walkSection (now (s .entry)) c Section.Stages (ran from) ≡ Walked.Clean r)
         × (c .layers ≡ 0 → bare (now (s .entry)) c ≡ true)) ⌝ }
 {
-    let least: [u32; 8] = [0, 65536, 65536, 65536, 65536, 131072, 0, 0];
+    let least: [u32; 8] = [0, 1, 1, 1, 1, 2, 0, 0];
     let slack: [u32; 8] = [0, 0, 65534, 0, 65534, 0, 0, 65535];
     let mut left = c.stages;
     let mut p = at;

@@ -42,7 +42,7 @@ fn step_passes(s: &[u8], c: Counts, p: usize, ports: u32, limit: &[u16; 21]) -> 
     u16_at(s, p + 5) < c.interfaces
 }
 
-// The counts are read anew: what is needed here alone is not kept from the start.
+// Two at a time: half the turns. The counts are read anew: what is needed here alone is not kept from the start.
 pub fn pass_steps(s: &[u8], at: usize, from: usize) -> bool
     requires { ⌜ Sized (now s) (countsOf (now s)) ⌝ }
     requires { ⌜ at ≡ stepsAt (countsOf (now s)) ⌝ }
@@ -55,13 +55,23 @@ pub fn pass_steps(s: &[u8], at: usize, from: usize) -> bool
     let mut left = c.steps;
     let mut p = at;
     let mut ports = from as u32;
-    while left != 0 {
+    while 2 <= left {
+        if !step_passes(s, c, p, ports, &limit) {
+            return false;
+        }
+        let next = ports + (u16_at(s, p + 9) as u32);
+        if !step_passes(s, c, p + STEP, next, &limit) {
+            return false;
+        }
+        ports = next + (u16_at(s, p + STEP + 9) as u32);
+        p += 2 * STEP;
+        left -= 2;
+    }
+    if left != 0 {
         if !step_passes(s, c, p, ports, &limit) {
             return false;
         }
         ports += u16_at(s, p + 9) as u32;
-        p += STEP;
-        left -= 1;
     }
     ports == (c.ports as u32)
 }

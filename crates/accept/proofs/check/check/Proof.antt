@@ -1,12 +1,17 @@
-use mathlib.Core.Path.{_∙_, sym, ap}
+use mathlib.Core.Path.{_≡_, _∙_, sym, ap}
+use mathlib.Core.Bool.{true}
+use mathlib.Core.List.{List}
+use Prim.Native.Nat.{ℕ, _+_, _*_}
+use native.Mathlib.Omega.{arith}
 use borrow.Author.Tests.{not-true, not-false}
 use Rattle.records.specs.declared.layout.Counts.{Counts}
-use Rattle.image.specs.Check.{recordAnswer}
+use Rattle.image.specs.Check.{marked, recordAnswer}
 use Rattle.lists.specs.Passing.{ran}
 use Rattle.records.specs.Judge.{walkAll}
-use Rattle.records.specs.Layout.{within, lengthOf, sections}
-use Rattle.image.proofs.Answering.{check-short, check-unmarked, check-count, check-length, check-records, within-sized}
+use Rattle.records.specs.Layout.{countsOf, within, lengthOf, sections}
+use Rattle.image.proofs.Answering.{check-short, check-unmarked, check-count, check-length, check-records, within-sized, within-most}
 use borrow.Author.Needs.{needs}
+use Rattle.accept.specs.declared.starts.Starts.{Starts}
 use Rattle.accept.proofs.check.check.Statement.{statement}
 use Rattle.accept.proofs.check.check.Tie as tie
 
@@ -30,8 +35,8 @@ returns-2 c =
 read-requires : tie.Need-read-requires
 read-requires c κs = search needs
 
-within-requires : tie.Need-within-requires
-within-requires c κs = search needs
+bounded-requires : tie.Need-bounded-requires
+bounded-requires c κs = search needs
 
 refused-requires-3 : tie.Need-refused-requires-3
 refused-requires-3 c κs = search needs
@@ -42,41 +47,71 @@ returns-3 c =
     let m = w .before .before .before in
     c .refused3 .ensures
     ∙ check-count (m .before .before .before .args .s .now) (m .before .if1 .left) (sym (m .marked .ensures) ∙ not-false _ (w .before .before .if2 .left))
-    (sym (w .within .ensures ∙ ap within (w .before .read .ensures)) ∙ not-true _ (c .before .if3 .taken))
+    (sym (w .bounded .ensures) ∙ not-true _ (c .before .if3 .taken))
 
-length-requires : tie.Need-length-requires
-length-requires c κs = search needs
+of-requires : tie.Need-of-requires
+of-requires c κs = search needs
+
+cast-if4 : tie.Need-cast-if4
+cast-if4 c = search needs
+
+mul-if4 : tie.Need-mul-if4
+mul-if4 c = search needs
 
 refused-requires-4 : tie.Need-refused-requires-4
 refused-requires-4 c κs = search needs
 
+module _ (c : tie.After-of) where
+  abbrev w : tie.After-bounded
+  w = c .before .before
+
+  abbrev m : tie.After-marked
+  m = w .before .before .before
+
+  abbrev s : List ℕ
+  s = m .before .before .before .args .s .now
+
+  abbrev counts : Counts
+  counts = w .before .read .result
+
+  read : counts ≡ countsOf s
+  read = w .before .read .ensures
+
+  marked-so : marked s ≡ true
+  marked-so = sym (m .marked .ensures) ∙ not-false _ (w .before .before .if2 .left)
+
+  small : within (countsOf s) ≡ true
+  small = sym (w .bounded .ensures) ∙ not-false _ (c .before .if3 .left)
+
+  small-read : within counts ≡ true
+  small-read = ap within read ∙ small
+
+  -- behind the last start come the refs
+  whole : c .of .result .refs + 2 * counts .refs ≡ lengthOf counts
+  whole = ap (λ (x : Starts). x .refs + 2 * counts .refs) (c .of .ensures)
+
+add-if4 : tie.Need-add-if4
+add-if4 c = let o = c .before .before in omega (arith, whole o, within-most (counts o) (small-read o))
+
 returns-4 : tie.Need-returns-4
 returns-4 c =
-    let t = c .before .before in
-    let w = t .before .before in
-    let m = w .before .before .before in
+    let o = c .before .before .before .before in
     c .refused4 .ensures
-    ∙ check-length (m .before .before .before .args .s .now) (m .before .if1 .left) (sym (m .marked .ensures) ∙ not-false _ (w .before .before .if2 .left))
-    (sym (w .within .ensures ∙ ap within (w .before .read .ensures)) ∙ not-false _ (t .before .if3 .left))
-    (λ e. c .before .if4 .taken (e ∙ sym (t .length .ensures ∙ ap lengthOf (w .before .read .ensures))))
+    ∙ check-length (s o) (m o .before .if1 .left) (marked-so o) (small o)
+    (λ e. c .before .if4 .taken (e ∙ sym (whole o ∙ ap lengthOf (read o))))
 
 told-requires : tie.Need-told-requires
 told-requires c κs =
-    let t = c .before in
-    let w = t .before .before in
-    (within-sized _ _ (sym (w .within .ensures) ∙ not-false _ (t .before .if3 .left)) (c .if4 .left ∙ t .length .ensures), w .before .read .ensures)
+    let o = c .before .before .before in
+    (within-sized _ _ (small-read o) (c .if4 .left ∙ whole o), (read o, o .of .ensures))
 
 returns-5 : tie.Need-returns-5
 returns-5 c =
-    let t = c .before .before in
-    let w = t .before .before in
-    let m = w .before .before .before in
-    let s = m .before .before .before .args .s .now in
+    let o = c .before .before .before .before in
     c .told .ensures
-    ∙ ap (λ (x : Counts). recordAnswer s x (walkAll s x sections (ran 0))) (w .before .read .ensures)
-    ∙ check-records s (m .before .if1 .left) (sym (m .marked .ensures) ∙ not-false _ (w .before .before .if2 .left))
-    (sym (w .within .ensures ∙ ap within (w .before .read .ensures)) ∙ not-false _ (t .before .if3 .left))
-    (c .before .if4 .left ∙ t .length .ensures ∙ ap lengthOf (w .before .read .ensures))
+    ∙ ap (λ (x : Counts). recordAnswer (s o) x (walkAll (s o) x sections (ran 0))) (read o)
+    ∙ check-records (s o) (m o .before .if1 .left) (marked-so o) (small o)
+    (c .before .if4 .left ∙ whole o ∙ ap lengthOf (read o))
 
 pub check-spec : {M : Type 1} → statement M
 check-spec =
@@ -88,10 +123,13 @@ check-spec =
     refused-requires-2
     returns-2
     read-requires
-    within-requires
+    bounded-requires
     refused-requires-3
     returns-3
-    length-requires
+    of-requires
+    cast-if4
+    mul-if4
+    add-if4
     refused-requires-4
     returns-4
     told-requires

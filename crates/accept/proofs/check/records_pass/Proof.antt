@@ -1,55 +1,25 @@
-use mathlib.Core.Path.{_≡_, sym}
-use mathlib.Core.Bool.{true, true≢false}
+use mathlib.Core.Path.{_≡_, sym, ap}
+use mathlib.Core.Bool.{true≢false}
 use mathlib.Core.List.{List, [], _∷_}
-use Prim.Native.Nat.{ℕ, _≤_}
+use Prim.Native.Nat.{ℕ}
 use native.Mathlib.Omega.{arith}
-use lib.ListN.{length-replicate, getD-replicate}
 use borrow.Author.Needs.{needs}
 use Rattle.records.specs.declared.layout.Counts.{Counts}
 use Rattle.records.specs.declared.layout.Section.{Section}
 use Rattle.records.specs.declared.layout.Section.the-variants.{Layers, Interfaces, Stages, Locals, Types, Steps, Ports}
-use Rattle.image.specs.Kind.{listed}
-use Rattle.image.specs.View.{viewOf}
-use Rattle.image.proofs.Tallies.{zeros}
-use Rattle.lists.specs.Marking.{held}
 use Rattle.lists.specs.Passing.{ran, InterfacesPass}
-use Rattle.lists.proofs.Crossing.{listed-all}
-use Rattle.lists.proofs.Held.{held-zero}
-use Rattle.sections.specs.Jumping.{LayersGood}
+use Rattle.lists.proofs.Layered.{all-kept}
+use Rattle.jumping.specs.Jumping.{LayersGood}
+use Rattle.accept.specs.declared.starts.Starts.{Starts}
 use Rattle.accept.specs.Passing.{LayersEnd}
 use Rattle.accept.proofs.Told.{goes}
 use Rattle.accept.proofs.check.records_pass.Statement.{statement}
 use Rattle.accept.proofs.check.records_pass.Tie as tie
 
-cast-interfaces : tie.Need-cast-interfaces
-cast-interfaces c = search needs
-
-mul-interfaces : tie.Need-mul-interfaces
-mul-interfaces c = search needs
-
-add-interfaces : tie.Need-add-interfaces
-add-interfaces c = search needs
-
-cast-stages : tie.Need-cast-stages
-cast-stages c = search needs
-
-mul-stages : tie.Need-mul-stages
-mul-stages c = search needs
-
-add-stages : tie.Need-add-stages
-add-stages c = search needs
-
-cast-base : tie.Need-cast-base
-cast-base c = search needs
-
-mul-base : tie.Need-mul-base
-mul-base c = search needs
-
-sub-base : tie.Need-sub-base
-sub-base c = search needs
-
 layers-end-requires : tie.Need-layers-end-requires
-layers-end-requires c κs = search needs
+layers-end-requires c κs =
+    let pre = c .before .pre in
+    (pre .0, (ap (λ (x : Starts). x .stages) (pre .1 .1), ap (λ (x : Starts). x .refs) (pre .1 .1)))
 
 cast-if1 : tie.Need-cast-if1
 cast-if1 c = search needs
@@ -62,7 +32,7 @@ module _ (c : tie.Else1) where
   ended = c .before .before
 
   abbrev start : tie.Start
-  start = ended .before .before .before .before .before
+  start = ended .before .before
 
   abbrev s : List ℕ
   s = start .args .s .now
@@ -73,21 +43,22 @@ module _ (c : tie.Else1) where
   layers : LayersEnd s counts (ended .layers-end .result)
   layers = ended .layers-end .ensures (c .if1 .left)
 
-  module _ {after : List ℕ} {second : ℕ} (interfaces : InterfacesPass s counts zeros after (ended .layers-end .result) second) where
-    good : (counts .layers ≡ 0 → ⊥) → LayersGood s counts
-    good n = record { below = layers .below n; own = layers .own n; once = layers .once n; lie = interfaces .lie n }
-
-    all-in-a-list : listed (viewOf s counts) ≡ true
-    all-in-a-list =
-        let small : counts .stages ≤ 256 = start .pre .0 .stages in
-        let none-counted : held (counts .stages) zeros ≡ 0 =
-        held-zero (counts .stages) zeros (λ t h. getD-replicate 256 t 0 0 (omega (arith, h, small))) in
-        listed-all s counts zeros after (length-replicate {A = ℕ} 256 0) small none-counted (interfaces .every-one none-counted) (interfaces .counted)
+  good : {second : ℕ} → InterfacesPass s counts (ended .layers-end .result) second → (counts .layers ≡ 0 → ⊥) → LayersGood s counts
+  good interfaces n = record { below = layers .below n; own = layers .own n; once = layers .once n; lie = interfaces .lie n }
 
 pass-interfaces-requires : tie.Need-pass-interfaces-requires
 pass-interfaces-requires c κs =
-    let pre = start (c .before) .pre in
-    (pre .0, (omega arith, (omega (arith, pre .0 .long), length-replicate {A = ℕ} 256 0)))
+    let one = c .before in
+    let pre = start one .pre in (
+      pre .0,
+      (
+        ap (λ (x : Starts). x .stages) (pre .1 .1),
+        (
+          ap (λ (x : Starts). x .interfaces) (pre .1 .1),
+          (ap (λ (x : Starts). x .refs) (pre .1 .1), (one .if1 .left, all-kept (counts one) (pre .0 .stages))),
+        ),
+      ),
+    )
 
 cast-if2 : tie.Need-cast-if2
 cast-if2 c = search needs
@@ -100,7 +71,7 @@ rest-passes-requires c κs =
     let crossed = c .before .before in
     let one = crossed .before .before in
     let pre = start one .pre in
-    (pre .0, (pre .1, (omega arith, (omega (arith, pre .0 .long), (c .if2 .left, good one (crossed .pass-interfaces .ensures (c .if2 .left)))))))
+    (pre .0, (pre .1 .0, (pre .1 .1, (c .if2 .left, good one (crossed .pass-interfaces .ensures (c .if2 .left))))))
 
 abbrev behind-it : List Section
 behind-it = Stages ∷ Locals ∷ Types ∷ Steps ∷ Ports ∷ []
@@ -119,7 +90,7 @@ returns-3 c e =
           (goes (s one) (counts one) Interfaces behind-it (ran first) (ran second) (interfaces .clean) (rest .0));
       bare = rest .1;
       own = interfaces .own;
-      listed = all-in-a-list one interfaces;
+      listed = interfaces .every-one;
       layers = good one interfaces;
       jumps = rest .2;
     }
@@ -128,15 +99,6 @@ pub records-pass-spec : {M : Type 1} → statement M
 records-pass-spec =
     tie.close
     (tie.spec
-    cast-interfaces
-    mul-interfaces
-    add-interfaces
-    cast-stages
-    mul-stages
-    add-stages
-    cast-base
-    mul-base
-    sub-base
     layers-end-requires
     cast-if1
     returns

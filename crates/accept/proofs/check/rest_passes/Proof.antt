@@ -12,60 +12,28 @@ use Rattle.records.specs.declared.running.Walked.the-variants.{Clean}
 use Rattle.records.specs.Judge.{walkSection, walkAll}
 use Rattle.records.specs.Layout.{countsOf, stagesAt, stepsAt, portsAt, Sized}
 use Rattle.lists.specs.Passing.{ran}
-use Rattle.sections.specs.Jumping.{LayersGood, StepsLaid, JumpsGood}
+use Rattle.jumping.specs.Jumping.{LayersGood, StepsLaid, JumpsGood}
 use Rattle.sections.specs.Passing.{bare}
+use Rattle.accept.specs.declared.starts.Starts.{Starts}
 use Rattle.accept.specs.Passing.{ends}
-use Rattle.sections.proofs.Ending.{steps-laid}
+use Rattle.accept.specs.Places.{startsOf}
+use Rattle.jumping.proofs.Ending.{steps-laid}
 use Rattle.accept.proofs.Told.{behind}
 use Rattle.accept.proofs.check.rest_passes.Statement.{statement}
 use Rattle.accept.proofs.check.rest_passes.Tie as tie
 
-cast-locals : tie.Need-cast-locals
-cast-locals c = search needs
-
-mul-locals : tie.Need-mul-locals
-mul-locals c = search needs
-
-add-locals : tie.Need-add-locals
-add-locals c = search needs
-
-cast-types : tie.Need-cast-types
-cast-types c = search needs
-
-mul-types : tie.Need-mul-types
-mul-types c = search needs
-
-add-types : tie.Need-add-types
-add-types c = search needs
-
-cast-steps : tie.Need-cast-steps
-cast-steps c = search needs
-
-mul-steps : tie.Need-mul-steps
-mul-steps c = search needs
-
-add-steps : tie.Need-add-steps
-add-steps c = search needs
-
-cast-ports : tie.Need-cast-ports
-cast-ports c = search needs
-
-mul-ports : tie.Need-mul-ports
-mul-ports c = search needs
-
-add-ports : tie.Need-add-ports
-add-ports c = search needs
-
 pass-refs-requires : tie.Need-pass-refs-requires
-pass-refs-requires c κs = search needs
+pass-refs-requires c κs =
+    let pre = c .before .pre in
+    (pre .0, (ap (λ (x : Starts). x .refs) (pre .1 .1 .0), pre .1 .1 .1 .0))
 
 returns : tie.Need-returns
 returns c = λ e. absurd (true≢false (sym e))
 
 pass-stages-requires : tie.Need-pass-stages-requires
 pass-stages-requires c κs =
-    let start = c .before .before .before .before .before .before .before in
-    (start .pre .0, (start .pre .1 .1 .0, c .before .pass-refs .ensures (not-false _ (c .if1 .left))))
+    let start = c .before .before .before in
+    (start .pre .0, (ap (λ (x : Starts). x .stages) (start .pre .1 .1 .0), (start .pre .1 .1 .1 .0, c .before .pass-refs .ensures (not-false _ (c .if1 .left)))))
 
 cast-if2 : tie.Need-cast-if2
 cast-if2 c = search needs
@@ -90,7 +58,7 @@ module _ (c : tie.Else4) where
   found = c .before .before .before .before .before .before .before .before .before
 
   abbrev start : tie.Start
-  start = found .before .before .before .before .before .before .before .before
+  start = found .before .before .before .before
 
   abbrev s : List ℕ
   s = start .args .s .now
@@ -100,6 +68,9 @@ module _ (c : tie.Else4) where
 
   abbrev r : Running
   r = found .pass-stages .result
+
+  placed : start .args .at ≡ startsOf counts
+  placed = start .pre .1 .1 .0
 
   -- what later passes read anew
   anew : counts ≡ countsOf s
@@ -121,13 +92,13 @@ module _ (c : tie.Else4) where
   few = omega (arith, c .if4 .left, start .pre .0 .ports)
 
 pass-locals-requires : tie.Need-pass-locals-requires
-pass-locals-requires c κs = (start c .pre .0, omega (arith, start c .pre .1 .1 .0))
+pass-locals-requires c κs = (start c .pre .0, ap (λ (x : Starts). x .locals) (placed c))
 
 returns-5 : tie.Need-returns-5
 returns-5 c = λ e. absurd (true≢false (sym e))
 
 pass-types-requires : tie.Need-pass-types-requires
-pass-types-requires c κs = let four = c .before .before in (start four .pre .0, omega (arith, start four .pre .1 .1 .0))
+pass-types-requires c κs = let four = c .before .before in (start four .pre .0, ap (λ (x : Starts). x .types) (placed four))
 
 returns-6 : tie.Need-returns-6
 returns-6 c = λ e. absurd (true≢false (sym e))
@@ -135,7 +106,7 @@ returns-6 c = λ e. absurd (true≢false (sym e))
 pass-ports-requires : tie.Need-pass-ports-requires
 pass-ports-requires c κs =
     let four = c .before .before .before .before in
-    (sized four, omega (arith, start four .pre .1 .1 .0, ap portsAt (anew four)))
+    (sized four, ap (λ (x : Starts). x .ports) (placed four) ∙ ap portsAt (anew four))
 
 returns-7 : tie.Need-returns-7
 returns-7 c = λ e. absurd (true≢false (sym e))
@@ -144,8 +115,8 @@ module _ (c : tie.Else7) where
   abbrev four : tie.Else4
   four = c .before .before .before .before .before .before
 
-  steps-place : {at : ℕ} → at ≡ stepsAt (counts four) → at ≡ stepsAt (countsOf (s four))
-  steps-place e = e ∙ ap stepsAt (anew four)
+  steps-place : start four .args .at .steps ≡ stepsAt (countsOf (s four))
+  steps-place = ap (λ (x : Starts). x .steps) (placed four) ∙ ap stepsAt (anew four)
 
   -- every section behind the interfaces is passed where the steps are
   passed : ((x y : ℕ) → walkSection (s four) (countsOf (s four)) Steps (record { refs = x; steps = y; ports = r four .ports })
@@ -169,7 +140,7 @@ pass-steps-requires : tie.Need-pass-steps-requires
 pass-steps-requires c κs =
     let seven = c .before .before in
     let f = four seven in
-    (sized f, (steps-place seven (omega (arith, start f .pre .1 .1 .0)), few f))
+    (sized f, (steps-place seven, few f))
 
 returns-8 : tie.Need-returns-8
 returns-8 c e =
@@ -183,12 +154,12 @@ pass-runs-requires c κs =
     let laid : StepsLaid (s f) (counts f) = steps-laid (s f) (counts f) (start f .args .from) (r f) (reached f .0) (all-steps f) in (
       sized f,
       (
-        start f .pre .1 .1 .0 ∙ ap stagesAt (anew f),
+        ap (λ (x : Starts). x .stages) (placed f) ∙ ap stagesAt (anew f),
         (
-          steps-place seven (omega (arith, start f .pre .1 .1 .0)),
+          steps-place seven,
           (
             few f,
-            (subst (LayersGood (s f)) (anew f) (start f .pre .1 .1 .1 .1 .1 (c .if8 .left)), subst (StepsLaid (s f)) (anew f) laid),
+            (subst (LayersGood (s f)) (anew f) (start f .pre .1 .1 .1 .1 (c .if8 .left)), subst (StepsLaid (s f)) (anew f) laid),
           ),
         ),
       ),
@@ -205,18 +176,6 @@ pub rest-passes-spec : {M : Type 1} → statement M
 rest-passes-spec =
     tie.close
     (tie.spec
-    cast-locals
-    mul-locals
-    add-locals
-    cast-types
-    mul-types
-    add-types
-    cast-steps
-    mul-steps
-    add-steps
-    cast-ports
-    mul-ports
-    add-ports
     pass-refs-requires
     returns
     pass-stages-requires

@@ -7,21 +7,21 @@ use borrow.Author.Tests.{not-false}
 use Rattle.records.specs.declared.record.InterfaceRecord.{InterfaceRecord}
 use Rattle.records.specs.Bytes.{u16At}
 use Rattle.records.specs.Records.{interfaceAt}
-use Rattle.lists.proofs.Crossing.{Crossing, crossing-start, crossing-long, crossing-on, crossing-end}
-use Rattle.lists.proofs.Held.{held-most}
+use Rattle.lists.proofs.Crossing.{Crossing, crossing-start, crossing-on, crossing-end}
 use Rattle.lists.proofs.interfaces.pass_interfaces.Statement.{statement}
 use Rattle.lists.proofs.interfaces.pass_interfaces.Tie as tie
 
 abbrev Inv-loop : tie.InvT-loop
-Inv-loop s c at base from counts₀ i₀ p₀ refs₀ seen₀ counts i p refs seen = Crossing s c from counts₀ i p refs counts seen
+Inv-loop s c stages at base from marks₀ i₀ p₀ refs₀ seen₀ marks i p refs seen = Crossing s c from i p refs marks seen
 
 abbrev μ-loop : tie.MeasureT-loop
-μ-loop s c at base from counts₀ i₀ p₀ refs₀ seen₀ counts i p refs seen = c .interfaces - i
+μ-loop s c stages at base from marks₀ i₀ p₀ refs₀ seen₀ marks i p refs seen = c .interfaces - i
 
 loop-holds : tie.Need-loop-holds Inv-loop μ-loop
 loop-holds c =
     let a = c .before .args in
-    crossing-start (a .s .now) (a .c) (a .from) (a .counts .now) (c .before .pre .0) (c .before .pre .1 .0)
+    let pre = c .before .pre in
+    crossing-start (a .s .now) (a .c) (a .from) (a .marks .now) (pre .0) (pre .1 .1 .0) (pre .1 .1 .1 .1 .0) (pre .1 .1 .1 .1 .1)
 
 module _ (c : tie.Then1 Inv-loop μ-loop) where
   abbrev at-loop : tie.At-loop Inv-loop μ-loop
@@ -102,13 +102,9 @@ interface-passes-requires c κs =
     let e = c .before .before .before in
     let t = inside e in
     let w = at-loop t .loop .inv in
-    let pre = start t .pre in
-    let few : at-loop t .loop .seen ≤ 65536 = omega (arith, w .marked, held-most (start t .args .c .stages) (at-loop t .loop .counts), pre .0 .stages) in (
+    let pre = start t .pre in (
       pre .0,
-      (
-        more t,
-        (w .place, (omega (arith, pre .1 .1 .0, first e), (omega (arith, first e, fits e), (few, crossing-long w ∙ pre .1 .1 .1)))),
-      ),
+      (pre .1 .0, (more t, (w .place, (omega (arith, pre .1 .1 .1 .0, first e), (omega (arith, first e, fits e), w .kept))))),
     )
 
 returns-4 : tie.Need-returns-4 Inv-loop μ-loop

@@ -1,5 +1,5 @@
 use borrow.Author.Needs.{needs}
-use Rattle.sections.proofs.Words.{type-named, type-unnamed}
+use Rattle.sections.proofs.Wiring.{type-named, type-unnamed}
 use Rattle.sections.proofs.locals.local_passes.Statement.{statement}
 use Rattle.sections.proofs.locals.local_passes.Tie as tie
 

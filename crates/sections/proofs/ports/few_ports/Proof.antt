@@ -13,16 +13,16 @@ use Rattle.sections.proofs.ports.few_ports.Statement.{statement}
 use Rattle.sections.proofs.ports.few_ports.Tie as tie
 
 abbrev Inv-loop : tie.InvT-loop
-Inv-loop s c at count left₀ p₀ left p = (r : Running) → Walking s c Ports (walk (judge Ports s c) portSize count at r) left p r
+Inv-loop s c at count most left₀ p₀ left p = (r : Running) → Walking s c Ports (walk (judge Ports s c) portSize count at r) left p r
 
 abbrev μ-loop : tie.MeasureT-loop
-μ-loop s c at count left₀ p₀ left p = left
+μ-loop s c at count most left₀ p₀ left p = left
 
 loop-holds : tie.Need-loop-holds Inv-loop μ-loop
-loop-holds c = λ r. record { room = c .before .pre; ahead = refl }
+loop-holds c = λ r. record { room = c .before .pre .0; ahead = refl }
 
 port-passes-requires : tie.Need-port-passes-requires Inv-loop μ-loop
-port-passes-requires c κs = walking-room (c .before .loop .inv (ran 0)) (c .loop-test .taken)
+port-passes-requires c κs = (walking-room (c .before .loop .inv (ran 0)) (c .loop-test .taken), c .before .before .before .pre .1)
 
 returns : tie.Need-returns Inv-loop μ-loop
 returns c = λ e. absurd (true≢false (sym e))

@@ -14,10 +14,10 @@ use Rattle.sections.proofs.ports.pass_ports.Statement.{statement}
 use Rattle.sections.proofs.ports.pass_ports.Tie as tie
 
 abbrev Inv-loop : tie.InvT-loop
-Inv-loop s at c left₀ p₀ left p = (r : Running) → Walking s c Ports (walkSection s (countsOf s) Ports r) left p r
+Inv-loop s at c most left₀ p₀ left p = (r : Running) → Walking s c Ports (walkSection s (countsOf s) Ports r) left p r
 
 abbrev μ-loop : tie.MeasureT-loop
-μ-loop s at c left₀ p₀ left p = left
+μ-loop s at c most left₀ p₀ left p = left
 
 read-requires : tie.Need-read-requires Inv-loop μ-loop
 read-requires c κs = omega (arith, c .before .pre .0 .long)
@@ -25,45 +25,31 @@ read-requires c κs = omega (arith, c .before .pre .0 .long)
 loop-holds : tie.Need-loop-holds Inv-loop μ-loop
 loop-holds c = rw (c .read .ensures) (λ r. walking-start _ _ _ r (c .before .before .pre .0) refl (c .before .before .pre .1))
 
-pair-passes-requires : tie.Need-pair-passes-requires Inv-loop μ-loop
-pair-passes-requires c κs = omega (arith, c .before .loop .inv (ran 0) .room, c .loop-test .taken)
+four-pass-requires : tie.Need-four-pass-requires Inv-loop μ-loop
+four-pass-requires c κs = (omega (arith, c .before .before .loop .inv (ran 0) .room, c .before .loop-test .taken), refl)
 
 returns : tie.Need-returns Inv-loop μ-loop
 returns c = λ e. absurd (true≢false (sym e))
-
-mul-pair-passes : tie.Need-mul-pair-passes Inv-loop μ-loop
-mul-pair-passes c = search needs
-
-add-pair-passes : tie.Need-add-pair-passes Inv-loop μ-loop
-add-pair-passes c = omega (arith, c .before .before .before .loop .inv (ran 0) .room, c .before .before .loop-test .taken)
-
-pair-passes-requires-2 : tie.Need-pair-passes-requires-2 Inv-loop μ-loop
-pair-passes-requires-2 c κs = omega (arith, c .before .before .before .loop .inv (ran 0) .room, c .before .before .loop-test .taken)
-
-returns-2 : tie.Need-returns-2 Inv-loop μ-loop
-returns-2 c = λ e. absurd (true≢false (sym e))
 
 mul-p : tie.Need-mul-p Inv-loop μ-loop
 mul-p c = search needs
 
 add-p : tie.Need-add-p Inv-loop μ-loop
-add-p c = omega (arith, c .before .before .before .before .before .loop .inv (ran 0) .room, c .before .before .before .before .loop-test .taken)
+add-p c = omega (arith, c .before .before .before .before .loop .inv (ran 0) .room, c .before .before .before .loop-test .taken)
 
 loop-less : tie.Need-loop-less Inv-loop μ-loop
 loop-less c = search needs
 
 loop-again : tie.Need-loop-again Inv-loop μ-loop
 loop-again c =
-    let first = c .before .before in
-    let at-loop = first .before .before .before in
-    λ r. fours-on (at-loop .loop .inv r) (first .before .before .loop-test .taken) (first .before .pair-passes .ensures (not-false _ (first .if1 .left)) r)
-    (c .before .pair-passes2 .ensures (not-false _ (c .if2 .left)) r)
+    let test = c .before .before .before in
+    λ r. fours-on (test .before .loop .inv r) (test .loop-test .taken) (c .before .four-pass .ensures (not-false _ (c .if1 .left)) r)
 
 few-ports-requires : tie.Need-few-ports-requires Inv-loop μ-loop
-few-ports-requires c κs = c .before .loop .inv (ran 0) .room
+few-ports-requires c κs = (c .before .before .loop .inv (ran 0) .room, refl)
 
-returns-3 : tie.Need-returns-3 Inv-loop μ-loop
-returns-3 c = λ e r. sym (c .before .before .loop .inv r .ahead) ∙ c .few-ports .ensures e r
+returns-2 : tie.Need-returns-2 Inv-loop μ-loop
+returns-2 c = λ e r. sym (c .before .before .before .loop .inv r .ahead) ∙ c .few-ports .ensures e r
 
 pub pass-ports-spec : {M : Type 1} → statement M
 pass-ports-spec =
@@ -73,15 +59,11 @@ pass-ports-spec =
     μ-loop
     read-requires
     loop-holds
-    pair-passes-requires
+    four-pass-requires
     returns
-    mul-pair-passes
-    add-pair-passes
-    pair-passes-requires-2
-    returns-2
     mul-p
     add-p
     loop-less
     loop-again
     few-ports-requires
-    returns-3)
+    returns-2)

@@ -1,11 +1,9 @@
-use mathlib.Core.Path.{sym}
+use mathlib.Core.Path.{_∙_, sym}
 use mathlib.Core.Bool.{true≢false}
-use Prim.Native.Nat.{ℕ, _+_, _≤_}
 use native.Mathlib.Omega.{arith}
-use lib.ListN.{getD}
 use borrow.Author.Needs.{needs}
-use Rattle.records.specs.Bytes.{u8At}
-use Rattle.sections.proofs.Arities.{few-header, header-fits}
+use borrow.Author.Tests.{leb-true}
+use Rattle.sections.proofs.Arities.{header-told}
 use Rattle.sections.proofs.stages.header_passes.Statement.{statement}
 use Rattle.sections.proofs.stages.header_passes.Tie as tie
 
@@ -18,48 +16,57 @@ shared-slice-read-tag c = search needs
 returns : tie.Need-returns
 returns c = λ e. absurd (true≢false (sym e))
 
+add-u16-at : tie.Need-add-u16-at
+add-u16-at c = search needs
+
+u16-at-requires : tie.Need-u16-at-requires
+u16-at-requires c κs = search needs
+
+cast-if2 : tie.Need-cast-if2
+cast-if2 c = search needs
+
+returns-2 : tie.Need-returns-2
+returns-2 c = λ e. absurd (true≢false (sym e))
+
 cast-i : tie.Need-cast-i
 cast-i c = search needs
 
-add-list-fits : tie.Need-add-list-fits
-add-list-fits c = search needs
+add-u16-at-2 : tie.Need-add-u16-at-2
+add-u16-at-2 c = search needs
 
-mul-list-fits : tie.Need-mul-list-fits
-mul-list-fits c = search needs
+u16-at-requires-2 : tie.Need-u16-at-requires-2
+u16-at-requires-2 c κs = search needs
 
-element-copy-out-list-fits : tie.Need-element-copy-out-list-fits
-element-copy-out-list-fits c = search needs
+cast-wrapping-sub-u32 : tie.Need-cast-wrapping-sub-u32
+cast-wrapping-sub-u32 c = search needs
 
-mul-list-fits-2 : tie.Need-mul-list-fits-2
-mul-list-fits-2 c = search needs
+mul-wrapping-sub-u32 : tie.Need-mul-wrapping-sub-u32
+mul-wrapping-sub-u32 c = search needs
 
-element-copy-out-list-fits-2 : tie.Need-element-copy-out-list-fits-2
-element-copy-out-list-fits-2 c = search needs
+element-copy-out-wrapping-sub-u32 : tie.Need-element-copy-out-wrapping-sub-u32
+element-copy-out-wrapping-sub-u32 c = search needs
 
-module _ (c : tie.Else1) where
-  abbrev start : tie.Start
-  start = c .before .before .before
+wrapping-sub-u32-requires : tie.Need-wrapping-sub-u32-requires
+wrapping-sub-u32-requires c κs = search needs
 
-  abbrev tag : ℕ
-  tag = u8At (start .args .s .now) (start .args .p + 8)
+mul-result : tie.Need-mul-result
+mul-result c = search needs
 
-  few : (getD (start .args .least .now) tag 0 ≤ 131072) × (getD (start .args .slack .now) tag 0 ≤ 65535)
-  few = few-header tag (start .pre .1 .1 .0) (start .pre .1 .1 .1) (c .if1 .left)
+element-copy-out-result : tie.Need-element-copy-out-result
+element-copy-out-result c = search needs
 
-cast-list-fits : tie.Need-cast-list-fits
-cast-list-fits c = omega (arith, few (c .before .before) .1)
-
-list-fits-requires : tie.Need-list-fits-requires
-list-fits-requires c κs =
-    let b = c .before .before in
-    (omega (arith, start b .pre .0), omega (arith, start b .pre .1 .0, few b .0))
-
-returns-2 : tie.Need-returns-2
-returns-2 c =
-    let b = c .before .before .before in
-    λ e h.
-    header-fits (start b .args .s .now) (start b .args .p) (start b .args .ports) (tag b) (start b .pre .1 .1 .0) (start b .pre .1 .1 .1) (b .if1 .left)
-    (λ n l m. c .list-fits .ensures e n l m h)
+returns-3 : tie.Need-returns-3
+returns-3 c =
+    let sub = c .before in
+    let count = sub .before .before in
+    let first = count .before .before in
+    let start = first .before .before .before .before in
+    λ e h. (
+      omega (arith, first .u16-at .ensures, count .before .if2 .left, h),
+      header-told _ (sub .wrapping-sub-u32 .result) _ (start .pre .1 .1 .0) (start .pre .1 .1 .1) (first .before .if1 .left)
+          (sub .wrapping-sub-u32 .ensures ∙ count .u16-at2 .ensures)
+          (leb-true _ _ e),
+    )
 
 pub header-passes-spec : {M : Type 1} → statement M
 header-passes-spec =
@@ -68,12 +75,17 @@ header-passes-spec =
     add-tag
     shared-slice-read-tag
     returns
+    add-u16-at
+    u16-at-requires
+    cast-if2
+    returns-2
     cast-i
-    add-list-fits
-    mul-list-fits
-    element-copy-out-list-fits
-    mul-list-fits-2
-    element-copy-out-list-fits-2
-    cast-list-fits
-    list-fits-requires
-    returns-2)
+    add-u16-at-2
+    u16-at-requires-2
+    cast-wrapping-sub-u32
+    mul-wrapping-sub-u32
+    element-copy-out-wrapping-sub-u32
+    wrapping-sub-u32-requires
+    mul-result
+    element-copy-out-result
+    returns-3)

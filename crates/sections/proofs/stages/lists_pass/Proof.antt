@@ -1,5 +1,7 @@
-use mathlib.Core.Path.{_∙_, sym}
+use mathlib.Core.Path.{_≡_, sym}
 use mathlib.Core.Bool.{true≢false}
+use Prim.Native.Nat.{_%_}
+use native.Mathlib.Omega.{arith}
 use borrow.Author.Needs.{needs}
 use borrow.Author.Tests.{eqb-true}
 use Rattle.sections.proofs.stages.lists_pass.Statement.{statement}
@@ -28,7 +30,13 @@ cast-result c = search needs
 
 returns-2 : tie.Need-returns-2
 returns-2 c =
-    λ e. (sym (c .before .before .before .before .u16-at .ensures) ∙ c .before .before .if1 .left, sym (c .before .u16-at2 .ensures) ∙ eqb-true _ _ e)
+    let refs = c .before .before in
+    let steps = c .before .u16-at2 in
+    λ e.
+    let same : steps .result ≡ refs .before .before .before .before .args .r .steps % 65536 = eqb-true _ _ e in (
+      λ h. omega (arith, refs .before .before .u16-at .ensures, refs .if1 .left, h),
+      λ h. omega (arith, steps .ensures, same, h),
+    )
 
 pub lists-pass-spec : {M : Type 1} → statement M
 lists-pass-spec =

@@ -1,4 +1,4 @@
-use mathlib.Core.Path.{_≡_, refl, subst}
+use mathlib.Core.Path.{refl}
 use mathlib.Core.List.{List}
 use Prim.Native.Nat.{ℕ, _+_, _≤_, _<_}
 use native.Mathlib.Omega.{arith}
@@ -6,9 +6,8 @@ use lib.ListN.{length}
 use borrow.Author.Needs.{needs}
 use borrow.Author.Tests.{not-false}
 use Rattle.records.specs.declared.running.Running.{Running}
-use Rattle.records.specs.Bytes.{Bytes, u8At, u16At}
-use Rattle.image.proofs.Numbers.{half-below}
-use Rattle.sections.proofs.Staging.{Staging, staging-start, staging-room, staging-on, staging-end}
+use Rattle.records.specs.Bytes.{Bytes, u8At}
+use Rattle.sections.proofs.Staging.{Low, Staging, staging-start, staging-room, staging-on, staging-end}
 use Rattle.sections.proofs.stages.pass_stages.Statement.{statement}
 use Rattle.sections.proofs.stages.pass_stages.Tie as tie
 
@@ -19,10 +18,10 @@ abbrev μ-loop : tie.MeasureT-loop
 μ-loop s c at from least slack left₀ p₀ r₀ left p r = left
 
 loop-holds : tie.Need-loop-holds Inv-loop μ-loop
-loop-holds c = staging-start _ _ _ (c .before .pre .0) refl (c .before .pre .1 .0)
+loop-holds c = staging-start _ _ _ (c .before .pre .0) refl (c .before .pre .1 .0) (c .before .pre .1 .1 .0)
 
 cast-stage-passes : tie.Need-cast-stage-passes Inv-loop μ-loop
-cast-stage-passes c = omega (arith, c .before .before .loop .inv .low)
+cast-stage-passes c = omega (arith, c .before .before .loop .inv .low .2)
 
 room : (c : tie.In-loop Inv-loop μ-loop) → c .before .loop .p + 30 ≤ length (c .before .before .before .args .s .now)
 room c = staging-room (c .before .loop .inv) (c .loop-test .taken)
@@ -30,7 +29,7 @@ room c = staging-room (c .before .loop .inv) (c .loop-test .taken)
 stage-passes-requires : tie.Need-stage-passes-requires Inv-loop μ-loop
 stage-passes-requires c κs =
     let b = c .before .before .before in
-    (room b, (omega (arith, b .before .loop .inv .low), (refl, refl)))
+    (room b, (omega (arith, b .before .loop .inv .low .2), (refl, refl)))
 
 returns : tie.Need-returns Inv-loop μ-loop
 returns c =
@@ -69,15 +68,8 @@ module _ (c : tie.Else2 Inv-loop μ-loop) where
   payload : u8At s (p + 29) < 256
   payload = bytes (p + 29)
 
-  laid : (u16At s (p + 17) ≡ r .refs) × (u16At s (p + 21) ≡ r .steps)
-  laid = c .before .lists-pass .ensures (not-false _ (c .if2 .left))
-
-  -- the running places are numbers of 16 bits
-  refs-small : r .refs < 65536
-  refs-small = subst (λ (n : ℕ). n < 65536) (laid .0) (half-below s bytes _)
-
-  steps-small : r .steps < 65536
-  steps-small = subst (λ (n : ℕ). n < 65536) (laid .1) (half-below s bytes _)
+  low : Low (turn .before .loop .left) r
+  low = turn .before .loop .inv .low
 
 add-u16-at : tie.Need-add-u16-at Inv-loop μ-loop
 add-u16-at c = omega (arith, here c)
@@ -89,7 +81,7 @@ cast-t17 : tie.Need-cast-t17 Inv-loop μ-loop
 cast-t17 c = search needs
 
 add-t18 : tie.Need-add-t18 Inv-loop μ-loop
-add-t18 c = omega (arith, refs-small (c .before .before))
+add-t18 c = omega (arith, low (c .before .before) .0)
 
 add-u16-at-2 : tie.Need-add-u16-at-2 Inv-loop μ-loop
 add-u16-at-2 c = omega (arith, here (c .before .before))
@@ -101,7 +93,7 @@ cast-t21 : tie.Need-cast-t21 Inv-loop μ-loop
 cast-t21 c = search needs
 
 add-t22 : tie.Need-add-t22 Inv-loop μ-loop
-add-t22 c = omega (arith, steps-small (c .before .before .before .before))
+add-t22 c = omega (arith, low (c .before .before .before .before) .1)
 
 add-u16-at-3 : tie.Need-add-u16-at-3 Inv-loop μ-loop
 add-u16-at-3 c = omega (arith, here (c .before .before .before .before))
@@ -113,7 +105,7 @@ cast-t25 : tie.Need-cast-t25 Inv-loop μ-loop
 cast-t25 c = search needs
 
 add-t26 : tie.Need-add-t26 Inv-loop μ-loop
-add-t26 c = omega (arith, turn (c .before .before .before .before .before .before) .before .loop .inv .low)
+add-t26 c = omega (arith, low (c .before .before .before .before .before .before) .2)
 
 add-t27 : tie.Need-add-t27 Inv-loop μ-loop
 add-t27 c = omega (arith, here (c .before .before .before .before .before .before))
@@ -125,7 +117,9 @@ cast-t30 : tie.Need-cast-t30 Inv-loop μ-loop
 cast-t30 c = omega (arith, payload (c .before .before .before .before .before .before .before))
 
 add-t31 : tie.Need-add-t31 Inv-loop μ-loop
-add-t31 c = omega (arith, turn (c .before .before .before .before .before .before .before) .before .loop .inv .low, payload (c .before .before .before .before .before .before .before))
+add-t31 c =
+    let b = c .before .before .before .before .before .before .before in
+    omega (arith, low b .2, payload b)
 
 add-p : tie.Need-add-p Inv-loop μ-loop
 add-p c = omega (arith, here (c .before .before .before .before .before .before .before))
@@ -141,9 +135,9 @@ loop-again c =
     let b = c .before .before .before .before .before .before .before in
     let at = turn b in
     let start = at .before .before .before in
-    staging-on (at .before .loop .inv) (start .pre .0) (bytes b) (at .loop-test .taken) (start .pre .1 .1)
+    staging-on (at .before .loop .inv) (start .pre .0) (bytes b) (at .loop-test .taken) (start .pre .1 .1 .1)
     (b .before .before .before .stage-passes .ensures (not-false _ (b .before .before .if1 .left)))
-    (laid b)
+    (b .before .lists-pass .ensures (not-false _ (b .if2 .left)))
     (c .before .before .before .before .before .before .u16-at .ensures)
     (c .before .before .before .before .u16-at2 .ensures)
     (c .before .before .u16-at3 .ensures)

@@ -1,0 +1,5 @@
+pub mod Ending
+pub mod Jumping
+pub mod Marked
+pub mod Stepping
+pub mod Turning
