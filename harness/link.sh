@@ -3,7 +3,7 @@
 #
 # The toolchain compiles for x86-64. There its own archive is taken. On any other machine that archive cannot be linked, so the
 # LLVM module is taken instead, which the kit's clang compiles for the machine: a shadow of the kit (links to its entries) has a
-# clang that keeps the module before it calls the real one. For tests and measuring only; what is shipped is the toolchain's archive.
+# clang that keeps the module before it calls the real one. That is for tests and measuring only; what is shipped is the archive.
 #
 # Either way each function starts at a cache line, as the harness's own do (.cargo/config.toml): else what is linked beside it decides
 # how its loops lie, and with that how fast they are.
