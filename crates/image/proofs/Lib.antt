@@ -1,5 +1,6 @@
 pub mod Accepting
 pub mod Answering
+pub mod AtMost
 pub mod Clean
 pub mod Climbing
 pub mod Computed
@@ -10,8 +11,8 @@ pub mod Fields
 pub mod Gathered
 pub mod Heads
 pub mod Listing
-pub mod Mark
 pub mod Lists
+pub mod Mark
 pub mod Named
 pub mod Numbers
 pub mod Owning

@@ -19,12 +19,13 @@ use crate::layered::own_layers;
 use crate::tally::counted;
 use records::bytes::u32_at;
 use records::layout::Counts;
+use records::layout::HEAD;
 use records::layout::VERSION;
 use records::running::Running;
 use records::running::Walked;
 use records::walk::walk;
 
-pub fn refused(code: u32, place: u32) -> Answer
+fn refused(code: u32, place: u32) -> Answer
     ensures { λ r. ⌜ r ≡ refused code place ⌝ }
 {
     Answer {
@@ -35,7 +36,7 @@ pub fn refused(code: u32, place: u32) -> Answer
 }
 
 // "IR" and the version are one word.
-pub fn marked(s: &[u8]) -> bool
+fn marked(s: &[u8]) -> bool
     requires { ⌜ 21 ≤ length (now s) ⌝ }
     ensures { λ r. ⌜ r ≡ marked (now (s .entry)) ⌝ }
 {
@@ -104,8 +105,8 @@ fn judge_kind(s: &[u8], c: Counts) -> Answer
     }
 }
 
-// 6 record: by the walk, which has the place of a fault.
-pub fn judge_records(s: &[u8], c: Counts) -> Answer
+// 6 record.
+fn judge_records(s: &[u8], c: Counts) -> Answer
     requires { ⌜ Sized (now s) c ⌝ }
     ensures { λ r. ⌜ r ≡ recordAnswer (now (s .entry)) c
         (walkAll (now (s .entry)) c sections (record { refs = 0; steps = 0; ports = 0 })) ⌝ }
@@ -119,6 +120,25 @@ pub fn judge_records(s: &[u8], c: Counts) -> Answer
             judge_kind(s, c)
         }
     }
+}
+
+pub fn check(s: &[u8]) -> Answer
+    ensures { λ r. ⌜ r ≡ checkOf (now (s .entry)) ⌝ }
+{
+    if s.len() < HEAD {
+        return refused(2, 0);
+    }
+    if !marked(s) {
+        return refused(3, 0);
+    }
+    let c = Counts::read(s);
+    if !c.within() {
+        return refused(4, 0);
+    }
+    if s.len() != c.length() {
+        return refused(5, 0);
+    }
+    judge_records(s, c)
 }
 
 // An image that is longer than the largest, by its first bytes alone: nothing needs the rest.

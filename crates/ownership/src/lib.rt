@@ -1,7 +1,7 @@
 // The calls of document 01, for programs in other languages. Nothing is demanded of a caller.
 ghost use Rattle.ownership.specs.Promises.{Checked};
-use accept::check::check;
 use image::answer::Answer;
+use image::check::check;
 
 // A slice passes as a pointer and a length.
 #[no_mangle]

@@ -1,2 +1,0 @@
-pub mod Lane
-pub mod Told
