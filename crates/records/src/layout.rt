@@ -2,7 +2,7 @@
 ghost use mathlib.Core.Path.{_≡_};
 ghost use Prim.Native.Nat.{_≤_};
 ghost use lib.ListN.{length, getD};
-ghost use Rattle.records.specs.Layout.{countsOf, interfacesAt, stagesAt, localsAt, typesAt, stepsAt, portsAt, refsAt, within, sections, sizeOf, countOf, startOf};
+ghost use Rattle.records.specs.Layout.{countsOf, interfacesAt, stagesAt, localsAt, typesAt, stepsAt, portsAt, refsAt, lengthOf, within, sections, sizeOf, countOf, startOf};
 use crate::bytes::u16_at;
 
 pub const VERSION: u16 = 1;
@@ -119,6 +119,13 @@ impl Counts {
         ensures { λ r. ⌜ r ≡ refsAt self ⌝ }
     {
         self.ports_at() + PORT * (self.ports as usize)
+    }
+
+    // The length that the counts give.
+    pub fn length(self) -> usize
+        ensures { λ r. ⌜ r ≡ lengthOf self ⌝ }
+    {
+        self.refs_at() + REF * (self.refs as usize)
     }
 }
 
