@@ -2,8 +2,8 @@
 use mathlib.Core.Path.{refl}
 use Rattle.effect.specs.Example.{Hold}
 use Rattle.analyzer.specs.Worked.{worked, twoRounds, firstInFirstOut, reachedInspect, strictDiagnostics, joinOrderOnly, tripleOnly, infiniteTwice, barrierMerge, neverUnion}
-use Rattle.analyzer.proofs.Computed.{analysed}
+use Rattle.analyzer.proofs.Computed.{analyseNumbers}
 
 pub hold : Hold worked
-unfolding worked analysed twoRounds firstInFirstOut reachedInspect strictDiagnostics joinOrderOnly tripleOnly infiniteTwice barrierMerge neverUnion
+unfolding worked analyseNumbers twoRounds firstInFirstOut reachedInspect strictDiagnostics joinOrderOnly tripleOnly infiniteTwice barrierMerge neverUnion
 hold = (refl, (refl, (refl, (refl, (refl, (refl, (refl, (refl, (refl, tt)))))))))

@@ -14,7 +14,7 @@ use Rattle.image.specs.View.{view}
 use Rattle.wellformed.proofs.Found.{flat-found, wanted}
 use Rattle.wellformed.proofs.Viewed.{viewed}
 use Rattle.report.specs.Report.{reportBytes}
-use Rattle.analyzer.specs.Analyse.{analyseOf}
+use Rattle.analyzer.specs.Outcome.{analyseOf}
 use Rattle.analyzer.specs.Analyze.{analyze}
 use Rattle.analyzer.specs.Demand.{Demand}
 use Rattle.analyzer.specs.Flat.{Flat}
@@ -49,8 +49,8 @@ module _ (span : ℕ) (s : List ℕ) (small : Bytes s) (h : analyseOf span s .co
   demanded = demand (view s) (source .formed)
 
   -- .. and the report has it
-  pub said : Reported span (view s)
-  said = reported (view s) span
+  pub reports : Reported span (view s)
+  reports = reported (view s) span
 
   -- it has room wherever an image has
   pub fits : length (analyseOf span s .bytes) ≤ 63893

@@ -29,8 +29,8 @@ pub record Answers : Type 0 where
   pub diags : List Diag
 
 -- from the effects at the end on
-abbrev pub told : Vir → List ℕ → ℕ → State → Answers
-told v incoming l s =
+abbrev pub answersFrom : Vir → List ℕ → ℕ → State → Answers
+answersFrom v incoming l s =
     let info = localOf v l in
     let wires = setWires (inv (info .flags)) (fork (info .flags)) (s .effects) 0 incoming in
     record {
@@ -46,7 +46,7 @@ told v incoming l s =
 unfoldable pub processLocal : Vir → List ℕ → Network → ℕ → Answers
 processLocal v incoming n l =
     let inverse = inv (localOf v l .flags) in
-    told v incoming l (fixedPoint inverse (n .relations) (fillSegments v n inverse l))
+    answersFrom v incoming l (fixedPoint inverse (n .relations) (fillSegments v n inverse l))
 
 -- everything about one local, from the image and the local alone
 unfoldable pub answersFor : Vir → ℕ → Answers
@@ -86,16 +86,16 @@ rows cs n = collect (λ i. map (λ c. wireIn i (c .answers)) cs) 0 n
 abbrev pub InfiniteLoop : ℕ → ℕ → Diag
 InfiniteLoop span l = record { kind = 1; span = span; ty = none; local = l }
 
--- `self.infinite_loop`, and what is said so far
-pub record Saying : Type 0 where
+-- `self.infinite_loop`, the sums of the counters, and every diagnostic so far
+pub record Sums : Type 0 where
   pub infiniteLoop : Bool
   pub takes : ℕ
   pub evaluations : ℕ
   pub diags : List Diag
 
 -- `set_wires` says InfiniteLoop before `report_errors` says the rest; at most once a call
-abbrev pub saidOf : ℕ → ℕ → Answers → Saying → Saying
-saidOf span l a s =
+abbrev pub addAnswers : ℕ → ℕ → Answers → Sums → Sums
+addAnswers span l a s =
     record {
       infiniteLoop = s .infiniteLoop || a .loops;
       takes = s .takes + a .takes;
@@ -103,28 +103,25 @@ saidOf span l a s =
       diags = s .diags ++ elim (a .loops && not (s .infiniteLoop)) [ true ↦ InfiniteLoop span l ∷ [] | false ↦ [] ] ++ a .diags;
     }
 
-abbrev pub said : ℕ → List Column → Saying
-said span cs =
-    each (λ c s. each (λ a s. saidOf span (c .local) a s) (c .answers) s) cs
+abbrev pub sumsOf : ℕ → List Column → Sums
+sumsOf span cs =
+    each (λ c s. each (λ a s. addAnswers span (c .local) a s) (c .answers) s) cs
     (record { infiniteLoop = false; takes = 0; evaluations = 0; diags = [] })
 
-abbrev pub reported : Vir → List ℕ → List Column → Saying → Report
-reported v incoming cs s =
+abbrev pub reportOf : ℕ → Vir → List ℕ → List Column → Report
+reportOf span v incoming cs =
+    let sums = sumsOf span cs in
     record {
       locals = length (v .locals);
-      takes = s .takes;
-      evaluations = s .evaluations;
+      takes = sums .takes;
+      evaluations = sums .evaluations;
       incoming = incoming;
       wires = rows cs (length (v .interfaces));
-      diags = s .diags;
+      diags = sums .diags;
     }
-
-abbrev pub gathered : ℕ → Vir → List ℕ → List Column → Report
-gathered span v incoming cs = reported v incoming cs (said span cs)
-
-abbrev pub analyzed : ℕ → Vir → List ℕ → Report
-analyzed span v incoming = gathered span v incoming (columns v incoming (build v incoming))
 
 -- `analyze`, with the call's span
 unfoldable pub analyze : ℕ → Vir → Report
-analyze span v = analyzed span v (incomingOf v)
+analyze span v =
+    let incoming = incomingOf v in
+    reportOf span v incoming (columns v incoming (build v incoming))

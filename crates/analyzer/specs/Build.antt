@@ -48,10 +48,11 @@ PASS = 0
 abbrev pub getTransfer : ℕ → ℕ × ℕ
 getTransfer i = (1 + 2 * i, 2 + 2 * i)
 
--- `new_var`: the variable is the number of those before it
+-- `new_var`: the variable is the number of those before it. (`vars` changes)
 abbrev pub newVar : Network → Network
 newVar n = record { vars = n .vars + 1; relations = n .relations; segments = n .segments; disconnects = n .disconnects }
 
+-- (`relations` changes)
 abbrev pub newRelation : ℕ → ℕ → ℕ → ℕ → Network → Network
 newRelation a b c o n = record {
   vars = n .vars;
@@ -60,6 +61,7 @@ newRelation a b c o n = record {
   disconnects = n .disconnects;
 }
 
+-- (`segments` changes)
 abbrev pub newSegment : ℕ → List Touch → Network → Network
 newSegment var touches n = record {
   vars = n .vars;
@@ -68,6 +70,7 @@ newSegment var touches n = record {
   disconnects = n .disconnects;
 }
 
+-- (`disconnects` changes)
 abbrev pub newDisconnect : ℕ → ℕ → ℕ → Network → Network
 newDisconnect stage connected disconnected n = record {
   vars = n .vars;
@@ -153,6 +156,7 @@ closed (t ∷ ts) b =
       current = [];
     }
 
+-- `transfers.push(self.get_transfer(transfer.interface))`. (`transfers` changes)
 abbrev pub transferred : ℕ → Building → Building
 transferred i b =
     record {
@@ -168,6 +172,7 @@ touchOf v i =
     let flags = localOf v (i .local) .flags in
     record { local = i .local; effect = invocationEffect (i .invocation) (inv flags) (fork flags || not (strictNonFork (v .interfaces))) }
 
+-- (`current` changes)
 abbrev pub touching : Touch → Building → Building
 touching t b = record { network = b .network; segments = b .segments; transfers = b .transfers; current = b .current ++ (t ∷ []) }
 

@@ -10,7 +10,7 @@ use Rattle.vir.specs.Flags.{inv, fork}
 use Rattle.image.specs.Vir.{Vir}
 use Rattle.report.specs.Report.{Wire, noWire}
 use Rattle.solve.specs.FixedPoint.{State, effectAt, dependents, start, run, fixedPoint, takenBy}
-use Rattle.solve.specs.Least.{Least, Four, Steps, Enough}
+use Rattle.solve.specs.Least.{Least, Four, Steps, Enough, WaitsWithin}
 use Rattle.analyzer.specs.Analyze.{answersFor}
 use Rattle.analyzer.specs.Build.{Network, build, getTransfer, localOf}
 use Rattle.analyzer.specs.Fill.{fillSegments}
@@ -56,6 +56,7 @@ pub record Demand (v : Vir) (l : ℕ) : Type 0 where
   pub takes : answersFor v l .takes ≡ length (takenBy (inverseOf v l) (networkOf v .relations) (seedsOf v l))
   pub evaluations : answersFor v l .evaluations ≡ fixedPoint (inverseOf v l) (networkOf v .relations) (seedsOf v l) .evaluations
   pub enough : Enough (inverseOf v l) (networkOf v .relations) (seedsOf v l)
-  -- at most 7,937 variables and 7,424 relations; at most 31,748 entries ever wait (while entries are handed out the list only grows)
+  -- at most 7,937 variables and 7,424 relations; at most four entries wait for each variable, 31,748 in all, also while entries are handed out
   pub sizes : Sizes (networkOf v)
   pub waits : (k : ℕ) → length (after v l k .dirty) ≤ 31748
+  pub within : WaitsWithin (inverseOf v l) (networkOf v .relations) (seedsOf v l)

@@ -35,7 +35,7 @@ abbrev pub outputOf : Bool → Wire → Bool
 outputOf true w = w .first
 outputOf false w = w .third
 
--- the span of a diagnostic: `span.unwrap_or(info.span)`; a Missing consumer gives none
+-- the span of a diagnostic: `span.unwrap_or(info.span)`, the local's own where none is known. Nothing is said at a Missing consumer's
 abbrev pub spanOr : ℕ → Consumer → ℕ
 spanOr span Missing = span
 spanOr span Unplaced = span

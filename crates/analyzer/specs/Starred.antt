@@ -3,7 +3,7 @@ use mathlib.Core.List.{List, [], _∷_}
 use Rattle.effect.specs.Example.{Example}
 use Rattle.image.specs.Call.{numbers}
 use Rattle.image.specs.Samples.{example}
-use Rattle.analyzer.specs.Analyse.{analyseOf}
+use Rattle.analyzer.specs.Outcome.{analyseOf}
 
 unfoldable pub starred : List Example
 starred =

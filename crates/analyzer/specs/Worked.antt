@@ -3,7 +3,7 @@ use mathlib.Core.List.{List, [], _∷_}
 use Prim.Native.Nat.{ℕ}
 use Rattle.effect.specs.Example.{Example}
 use Rattle.image.specs.Call.{numbers}
-use Rattle.analyzer.specs.Analyse.{analyseOf}
+use Rattle.analyzer.specs.Outcome.{analyseOf}
 
 -- an image, and the bytes of its report
 abbrev reports : List ℕ → List ℕ → Example

@@ -15,13 +15,13 @@ use Rattle.image.specs.Encode.{layersBytes, interfacesBytes, stagesBytes
 use Rattle.records.specs.Faults.{layerGood, interfaceGood, stageGood}
 use Rattle.records.specs.Judge.{walk, walkAll}
 use Rattle.image.specs.Kind.{all, concat, occurrences, present, kindOfVir}
-use Rattle.image.specs.LayerRules.{within, layerRules}
+use Rattle.image.specs.LayerRules.{liesWithin, layerRules}
 use Rattle.image.specs.Samples.{example, loop}
 use Rattle.image.specs.View.{collect, viewOf, view}
 
 -- code, place and kind
 answer : List ℕ → List ℕ
-unfolding checkOf walk walkAll u16At u32At every layerGood interfaceGood stageGood headerOf kindOf portOf stepOf collect viewOf all concat occurrences present within kindOfVir layerRules
+unfolding checkOf walk walkAll u16At u32At every layerGood interfaceGood stageGood headerOf kindOf portOf stepOf collect viewOf all concat occurrences present liesWithin kindOfVir layerRules
 answer s = checkOf s .code ∷ checkOf s .place ∷ checkOf s .kind ∷ []
 
 -- read and written out again

@@ -1,5 +1,5 @@
 -- A value written out as an image: the records in file order, the lists laid end to end.
--- (The high byte of a number is not cut off, so a number that does not fit its field makes no byte, and no accepted image.)
+-- (Nothing is cut off: a number that does not fit its field leaves one above 255. `encoded` of wellformed says that a well-formed value gives bytes.)
 use mathlib.Core.Bool.{Bool as Truth, true, not, _&&_}
 use mathlib.Core.List.{List, [], _∷_, _++_}
 use mathlib.Core.Path.{_≡_}

@@ -9,7 +9,7 @@ use Rattle.records.specs.declared.layout.Counts.{Counts}
 use Rattle.records.specs.declared.record.Run.{Run}
 use Rattle.image.specs.Kind.{concat}
 use Rattle.records.specs.Layout.{stepsAt, stepSize}
-use Rattle.image.specs.LayerRules.{transferTo, divergeTo, within}
+use Rattle.image.specs.LayerRules.{transferTo, divergeTo, liesWithin}
 use Rattle.records.specs.Records.{stepAt}
 use Rattle.image.specs.View.{collect, actionOfRecord}
 use Rattle.image.specs.Vir.{Action, Vir, layerOf, interfaceOf}
@@ -34,4 +34,4 @@ enterable v l m = eqb (layerOf v m .parent) none || eqb (layerOf v m .parent) l
 
 -- a layer is another or lies in it
 abbrev pub liesIn : Vir → ℕ → ℕ → Bool
-liesIn v = within v (length (v .layers))
+liesIn v = liesWithin v (length (v .layers))

@@ -84,15 +84,15 @@ enteredOnce v =
     every (length (v .layers)) (λ l. eqb (layerOf v l .parent) none || eqb (occurrences l (concat (entries v) (v .stages))) 1)
 
 -- a layer is another or lies in it; parents fall, so as many steps up as there are layers are enough
-unfoldable pub within : Vir → ℕ → ℕ → ℕ → Bool
-within v zero l outer = false
-within v (suc n) l outer =
-    eqb l outer || elim (eqb (layerOf v l .parent) none) [ true ↦ false | false ↦ within v n (layerOf v l .parent) outer ]
+unfoldable pub liesWithin : Vir → ℕ → ℕ → ℕ → Bool
+liesWithin v zero l outer = false
+liesWithin v (suc n) l outer =
+    eqb l outer || elim (eqb (layerOf v l .parent) none) [ true ↦ false | false ↦ liesWithin v n (layerOf v l .parent) outer ]
 
 -- a Diverge names its own layer or an ancestor
 abbrev pub divergesOut : Vir → Bool
 divergesOut v =
-    every (length (v .stages)) (λ t. all (within v (length (v .layers)) (stageOf v t .layer)) (targets (stageOf v t)))
+    every (length (v .stages)) (λ t. all (liesWithin v (length (v .layers)) (stageOf v t .layer)) (targets (stageOf v t)))
 
 unfoldable pub layerRules : Vir → Bool
 layerRules v =

@@ -4,7 +4,7 @@ ghost use mathlib.Core.Bool.{true};
 ghost use Prim.Native.Nat.{_<_};
 ghost use lib.ListN.{length};
 ghost use Rattle.records.specs.Layout.{Sized};
-ghost use Rattle.image.specs.LayerRules.{parentsBelow, interfacesLie, within};
+ghost use Rattle.image.specs.LayerRules.{parentsBelow, interfacesLie, liesWithin};
 ghost use Rattle.image.specs.View.{viewOf};
 use records::bytes::u16_at;
 use records::layout::Counts;
@@ -50,7 +50,7 @@ pub fn lies_within(s: &[u8], c: Counts, l: u16, outer: u16) -> bool
     requires { ⌜ Sized (now s) c ⌝ }
     requires { ⌜ l < c .layers ⌝ }
     requires { ⌜ parentsBelow (viewOf (now s) c) ≡ true ⌝ }
-    ensures { λ r. ⌜ r ≡ within (viewOf (now (s .entry)) c) (length (viewOf (now (s .entry)) c .layers)) l outer ⌝ }
+    ensures { λ r. ⌜ r ≡ liesWithin (viewOf (now (s .entry)) c) (length (viewOf (now (s .entry)) c .layers)) l outer ⌝ }
 {
     let mut at = l;
     while at != outer {

@@ -2,8 +2,8 @@
 use mathlib.Core.Path.{refl}
 use Rattle.effect.specs.Example.{Hold}
 use Rattle.normalizer.specs.Worked.{worked, arrival, portsAfter}
-use Rattle.normalizer.proofs.Computed.{normalised}
+use Rattle.normalizer.proofs.Computed.{normaliseNumbers}
 
 pub hold : Hold worked
-unfolding worked normalised arrival portsAfter
+unfolding worked normaliseNumbers arrival portsAfter
 hold = (refl, (refl, tt))

@@ -59,17 +59,17 @@ module _ (v : Vir) where
     stepped-agree source l a p k h = go (leb (stepDivergence (layerDivergence (length (v .layers)) v) v (a .step)) l) refl
       where
         go : (b : Bool) → leb (stepDivergence (layerDivergence (length (v .layers)) v) v (a .step)) l ≡ b
-            → _≡_ {A = Piece} (elim b [ true ↦ splitAt v deep source a (opened v deep source a p) | false ↦ goOn v deep source a (opened v deep source a p) ])
-            (elim b [ true ↦ splitAt v deep′ source a (opened v deep source a p) | false ↦ goOn v deep′ source a (opened v deep source a p) ])
+            → _≡_ {A = Piece} (elim b [ true ↦ splitAt v deep source a (opened a p) | false ↦ goOn v deep source a (opened a p) ])
+            (elim b [ true ↦ splitAt v deep′ source a (opened a p) | false ↦ goOn v deep′ source a (opened a p) ])
         go true e =
-            split-agree source a (opened v deep source a p) h
+            split-agree source a (opened a p) h
             (λ i m. split-enters v (layerDivergence (length (v .layers)) v) (a .step) m e k)
-        go false e = go-on-agree source a (opened v deep source a p) h
+        go false e = go-on-agree source a (opened a p) h
 
     stage-agree : (source : Stage) (l t : ℕ) (n : Normalizer) → l < none → ((a : Action) → List·Memᴰ a (source .steps) → Agree (a .step))
         → normalizeStage v deep source l t n ≡ normalizeStage v deep′ source l t n
     stage-agree source l t n k h =
-        ap (λ (p : Piece). ended v deep source l p)
+        ap (λ (p : Piece). ended source l p)
         (each-cong (stepped v deep source l) (stepped v deep′ source l) (source .steps) (λ a m p. stepped-agree source l a p k (h a m)) _)
 
   -- the stages of a layer in turn, given how the layers that they enter are normalised

@@ -13,14 +13,14 @@ use Rattle.image.specs.Call.{numbers}
 use Rattle.image.specs.Check.{checkOf}
 use Rattle.image.specs.Encode.{layersBytes, interfacesBytes, stagesBytes, actionsBytes, encode}
 use Rattle.image.specs.Kind.{all, concat, occurrences, present, kindOfVir}
-use Rattle.image.specs.LayerRules.{within, layerRules}
+use Rattle.image.specs.LayerRules.{liesWithin, layerRules}
 use Rattle.image.specs.Loops.{each}
 use Rattle.image.specs.View.{collect, viewOf}
 use Rattle.normalizer.specs.Divergence.{layerDivergence}
-use Rattle.normalizer.specs.Normalise.{normaliseOf}
-use Rattle.normalizer.specs.Normalize.{normalizeLayer, roots, normalized, normalize}
+use Rattle.normalizer.specs.Outcome.{normaliseOf}
+use Rattle.normalizer.specs.Normalize.{normalizeLayer, roots, normalizerOf, normalize}
 use Rattle.normalizer.specs.OpenWires.{toggle}
 
-unfoldable pub normalised : List ℕ → List ℕ
-unfolding normaliseOf normalize normalized roots normalizeLayer layerDivergence toggle each layersBytes interfacesBytes stagesBytes actionsBytes encode checkOf walk walkAll u16At u32At every layerGood interfaceGood stageGood headerOf kindOf portOf stepOf collect viewOf all concat occurrences present within kindOfVir layerRules
-normalised s = numbers (normaliseOf s)
+unfoldable pub normaliseNumbers : List ℕ → List ℕ
+unfolding normaliseOf normalize normalizerOf roots normalizeLayer layerDivergence toggle each layersBytes interfacesBytes stagesBytes actionsBytes encode checkOf walk walkAll u16At u32At every layerGood interfaceGood stageGood headerOf kindOf portOf stepOf collect viewOf all concat occurrences present liesWithin kindOfVir layerRules
+normaliseNumbers s = numbers (normaliseOf s)

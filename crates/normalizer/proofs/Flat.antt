@@ -21,7 +21,7 @@ use Rattle.image.proofs.Diverging.{occurrences-append}
 use Rattle.image.proofs.Viewing.{getD-collect}
 use Rattle.wellformed.proofs.Plain.{fitting}
 use Rattle.normalizer.specs.Layered.{Layered}
-use Rattle.normalizer.specs.Normalize.{normalized, unwrap, normalize}
+use Rattle.normalizer.specs.Normalize.{normalizerOf, unwrap, normalize}
 use Rattle.normalizer.proofs.Formed.{SetOnce, stages-length, facts, good-at, normal-formed}
 use Rattle.normalizer.proofs.Members.{all-one, all-imp}
 use Rattle.normalizer.proofs.Sound.{single, Shape, Good, as-many, stages-grow}
@@ -71,14 +71,14 @@ module _ (v : Vir) (y : Layered v) where
     abbrev w : Vir
     w = normalize v
 
-    abbrev shape : Shape v (normalized v)
+    abbrev shape : Shape v (normalizerOf v)
     shape = facts v y .shape
 
     good-stage : (t : ℕ) → t < length (w .stages) → Good v (countsOfVir w) t (stageOf w t)
     unfolding normalize
     good-stage t h =
         subst (Good v (countsOfVir w) t)
-        (sym (getD-any (w .stages) t _ (unwrap []) h ∙ List·getD-map unwrap (normalized v .stages) t []))
+        (sym (getD-any (w .stages) t _ (unwrap []) h ∙ List·getD-map unwrap (normalizerOf v .stages) t []))
         (good-at v y once t (omega (arith, h, stages-length v)))
 
     grown : length (v .stages) ≤ length (w .stages)

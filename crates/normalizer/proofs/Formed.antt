@@ -19,7 +19,7 @@ use Rattle.image.specs.Vir.{Stage, Vir}
 use Rattle.image.proofs.Lists.{lists-none}
 use Rattle.wellformed.specs.WellFormed.{WellFormed, layerFits, interfaceFits, stageFits, actionFits, portFits}
 use Rattle.normalizer.specs.Layered.{Layered}
-use Rattle.normalizer.specs.Normalize.{begun, normalized, unwrap, normalize}
+use Rattle.normalizer.specs.Normalize.{begun, normalizerOf, unwrap, normalize}
 use Rattle.normalizer.proofs.Fitting.{interface-fits-on}
 use Rattle.normalizer.proofs.FactsKept.{roots-keep}
 use Rattle.normalizer.proofs.Members.{both-true, all-none, all-one, all-join, all-at, all-from, all-imp, all-concat, Holds, holds-first}
@@ -28,7 +28,7 @@ use Rattle.normalizer.proofs.Whole.{whole}
 
 -- every stage was put exactly once
 abbrev pub SetOnce : Vir → Type 0
-SetOnce v = all (λ ts. eqb (length ts) 1) (normalized v .stages) ≡ true
+SetOnce v = all (λ ts. eqb (length ts) 1) (normalizerOf v .stages) ≡ true
 
 getD-replicated : {A : Type 0} (n t : ℕ) (d : A) → getD (replicate n d) t d ≡ d
 getD-replicated zero t d = refl
@@ -40,9 +40,9 @@ unfolding all collect
 all-collect f h a zero p = refl
 all-collect f h a (suc n) p = both-true (p a (omega arith)) (all-collect f h (suc a) n (λ k l. p k (omega (arith, l))))
 
-pub stages-length : (v : Vir) → length (normalize v .stages) ≡ length (normalized v .stages)
+pub stages-length : (v : Vir) → length (normalize v .stages) ≡ length (normalizerOf v .stages)
 unfolding normalize
-stages-length v = length-map (normalized v .stages) unwrap
+stages-length v = length-map (normalizerOf v .stages) unwrap
 
 module _ (v : Vir) (y : Layered v) where
   abbrev c : Counts
@@ -64,21 +64,21 @@ module _ (v : Vir) (y : Layered v) where
         finals = λ l. ap (orNone (c .interfaces)) (getD-replicated (length (v .layers)) l none);
       }
 
-  pub facts : Facts v c (normalized v)
-  unfolding normalize normalized
+  pub facts : Facts v c (normalizerOf v)
+  unfolding normalize normalizerOf
   facts = roots-keep v y c (omega arith) 0 (v .layers) (begun v) (λ b. facts-begun) (omega arith, omega arith) .1
 
   module _ (once : SetOnce v) where
-    pub good-at : (t : ℕ) → t < length (normalized v .stages) → Good v c t (unwrap (getD (normalized v .stages) t []))
+    pub good-at : (t : ℕ) → t < length (normalizerOf v .stages) → Good v c t (unwrap (getD (normalizerOf v .stages) t []))
     good-at t h =
-        let one = eqb-true (length (getD (normalized v .stages) t [])) 1 (all-at (λ ts. eqb (length ts) 1) [] (normalized v .stages) once t h) in
-        holds-first (Good v c t) _ (getD (normalized v .stages) t []) (omega (arith, one)) (facts .stages t)
+        let one = eqb-true (length (getD (normalizerOf v .stages) t [])) 1 (all-at (λ ts. eqb (length ts) 1) [] (normalizerOf v .stages) once t h) in
+        holds-first (Good v c t) _ (getD (normalizerOf v .stages) t []) (omega (arith, one)) (facts .stages t)
 
     all-stages : (f : Stage → Bool) → ((t : ℕ) (s : Stage) → Good v c t s → f s ≡ true) → all f (normalize v .stages) ≡ true
     unfolding normalize
     all-stages f p =
-        all-from f (unwrap []) (map unwrap (normalized v .stages))
-        (λ t h. ap f (List·getD-map unwrap (normalized v .stages) t []) ∙ p t _ (good-at t (omega (arith, h, stages-length v))))
+        all-from f (unwrap []) (map unwrap (normalizerOf v .stages))
+        (λ t h. ap f (List·getD-map unwrap (normalizerOf v .stages) t []) ∙ p t _ (good-at t (omega (arith, h, stages-length v))))
 
     all-interfaces : all (interfaceFits c) (normalize v .interfaces) ≡ true
     unfolding normalize

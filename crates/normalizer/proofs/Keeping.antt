@@ -16,7 +16,7 @@ use Rattle.image.specs.Vir.{Action, Layer, Local, Stage, Vir, layerOf, stageOf}
 use Rattle.image.proofs.Climbing.{parentOf}
 use Rattle.normalizer.specs.Divergence.{subLayer, stepDivergence, layerDivergence}
 use Rattle.normalizer.specs.Layered.{Layered}
-use Rattle.normalizer.specs.Normalize.{Normalizer, Piece, carry, begun, goOn, normalizeLayer, normalizeStage, normalized, opened, pushLocal, pushPiece, putStage, roots, setFinal, splitAt, stepped}
+use Rattle.normalizer.specs.Normalize.{Normalizer, Piece, carry, begun, goOn, normalizeLayer, normalizeStage, normalizerOf, opened, pushLocal, pushPiece, putStage, roots, setFinal, splitAt, stepped}
 use Rattle.normalizer.proofs.Each.{concat-concat, each-keeps, each-grows}
 use Rattle.normalizer.proofs.Layering.{lists, few-layers, listed-exists}
 use Rattle.normalizer.proofs.Splits.{split-enters, prepared, split-is}
@@ -112,14 +112,14 @@ module _ (v : Vir) (w : Layered v) (P : List ℕ → List ℕ → Normalizer →
     stepped-keeps source l a q b p k h = go (leb (stepDivergence (layerDivergence (length (v .layers)) v) v (a .step)) l) refl
       where
         choice : Bool → Piece
-        choice t = elim t [ true ↦ splitAt v deep source a (opened v deep source a p) | false ↦ goOn v deep source a (opened v deep source a p) ]
+        choice t = elim t [ true ↦ splitAt v deep source a (opened a p) | false ↦ goOn v deep source a (opened a p) ]
 
         go : (t : Bool) → leb (stepDivergence (layerDivergence (length (v .layers)) v) v (a .step)) l ≡ t
             → P (b ++ concat g (children v a)) (choice t .id ∷ q) (choice t .normalizer)
         go true e =
-            split-keeps source a q b (opened v deep source a p)
+            split-keeps source a q b (opened a p)
             (λ i m. split-enters v (layerDivergence (length (v .layers)) v) (a .step) m e k) h
-        go false e = go-on-keeps source a q b (opened v deep source a p) h
+        go false e = go-on-keeps source a q b (opened a p) h
 
     stage-keeps : (source : Stage) (l t : ℕ) (q b : List ℕ) (n : Normalizer) → l < none → t < length (v .stages) → P b q n
         → P (b ++ (t ∷ concat (λ a. concat g (children v a)) (source .steps))) q (normalizeStage v deep source l t n)
@@ -140,8 +140,8 @@ module _ (v : Vir) (w : Layered v) (P : List ℕ → List ℕ → Normalizer →
       (omega (arith, lists v l listed, few-layers v w)) (listed-exists v w l listed))
       b n h
 
-  pub normalized-keeps : P [] [] (begun v) → P (concat (begins (length (v .layers)) v) (rootsFrom 0 (v .layers))) [] (normalized v)
-  unfolding normalized
+  pub normalized-keeps : P [] [] (begun v) → P (concat (begins (length (v .layers)) v) (rootsFrom 0 (v .layers))) [] (normalizerOf v)
+  unfolding normalizerOf
   normalized-keeps h =
       subst (P (concat (begins (length (v .layers)) v) (rootsFrom 0 (v .layers))) []) (sym (roots-each v 0 (v .layers) (begun v)))
       (each-grows (λ c n. P c [] n) (normalizeLayer (length (v .layers)) v) (begins (length (v .layers)) v) (rootsFrom 0 (v .layers))

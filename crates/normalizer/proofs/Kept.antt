@@ -7,7 +7,7 @@ use lib.Seq.{take-append-le, take-length}
 use Prim.Native.Nat.{_≤_}
 use Rattle.image.specs.Vir.{Vir}
 use Rattle.normalizer.specs.Layered.{Layered}
-use Rattle.normalizer.specs.Normalize.{normalized}
+use Rattle.normalizer.specs.Normalize.{normalizerOf}
 use Rattle.normalizer.proofs.Keeping.{normalized-keeps}
 
 pub front-append : {A : Type 0} (xs ys zs : List A) → take (length xs) ys ≡ xs → take (length xs) (ys ++ zs) ≡ xs
@@ -15,7 +15,7 @@ front-append xs ys zs h =
     let long : length xs ≤ length ys = omega (arith, length-take (length xs) ys, ap length h) in
     take-append-le (length xs) ys zs long ∙ h
 
-pub kept-interfaces : (v : Vir) → Layered v → take (length (v .interfaces)) (normalized v .interfaces) ≡ v .interfaces
+pub kept-interfaces : (v : Vir) → Layered v → take (length (v .interfaces)) (normalizerOf v .interfaces) ≡ v .interfaces
 kept-interfaces v w =
     normalized-keeps v w (λ b q n. take (length (v .interfaces)) (n .interfaces) ≡ v .interfaces)
     (record {
@@ -28,7 +28,7 @@ kept-interfaces v w =
     })
     (take-length (v .interfaces))
 
-pub kept-locals : (v : Vir) → Layered v → take (length (v .locals)) (normalized v .locals) ≡ v .locals
+pub kept-locals : (v : Vir) → Layered v → take (length (v .locals)) (normalizerOf v .locals) ≡ v .locals
 kept-locals v w =
     normalized-keeps v w (λ b q n. take (length (v .locals)) (n .locals) ≡ v .locals)
     (record {

@@ -20,7 +20,7 @@ use Rattle.wellformed.proofs.Answered.{written-flat}
 use Rattle.wellformed.proofs.Found.{layered-found, rules-found, wanted}
 use Rattle.wellformed.proofs.Viewed.{viewed}
 use Rattle.normalizer.specs.Layered.{Layered}
-use Rattle.normalizer.specs.Normalise.{laidOut, normaliseOf}
+use Rattle.normalizer.specs.Outcome.{laidOut, normaliseOf}
 use Rattle.normalizer.specs.Normalize.{normalize}
 use Rattle.normalizer.proofs.Flat.{normal-flat}
 use Rattle.normalizer.proofs.Formed.{SetOnce, normal-formed}
@@ -71,8 +71,8 @@ module _ (s : List ℕ) (small : Bytes s) (h : normaliseOf s .code ≡ 0) where
   written = took .3 ∙ laid (normalize (view s)) (took .2) .1
 
   -- check accepts what is written as flat
-  pub accepted : checkOf (normaliseOf s .bytes) ≡ record { code = 0; place = 0; kind = 1 }
-  accepted =
+  pub written-accepted : checkOf (normaliseOf s .bytes) ≡ record { code = 0; place = 0; kind = 1 }
+  written-accepted =
       ap checkOf written
       ∙ written-flat (normalize (view s)) (normal-formed (view s) source once inside) (normal-flat (view s) source once inside)
 

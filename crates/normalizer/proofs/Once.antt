@@ -10,7 +10,7 @@ use borrow.Author.Tests.{eq-eqb, ltb-true, ltb-false}
 use Rattle.image.specs.Kind.{all, concat}
 use Rattle.image.specs.Vir.{Vir}
 use Rattle.normalizer.specs.Layered.{Layered}
-use Rattle.normalizer.specs.Normalize.{normalized}
+use Rattle.normalizer.specs.Normalize.{normalizerOf}
 use Rattle.normalizer.proofs.Counted.{Counted, putAt, counted-keeping, counted-start}
 use Rattle.normalizer.proofs.Keeping.{begins, rootsFrom, normalized-keeps}
 use Rattle.normalizer.proofs.Lines.{begun-once}
@@ -23,17 +23,17 @@ all-places d f [] h = refl
 all-places d f (x ∷ xs) h = ap₂ _&&_ (h 0 (omega arith)) (all-places d f xs (λ k l. h (suc k) (omega arith)))
 
 module _ (v : Vir) (w : Layered v) where
-  counted : Counted (length (v .stages)) (concat (begins (length (v .layers)) v) (rootsFrom 0 (v .layers))) [] (normalized v .stages)
+  counted : Counted (length (v .stages)) (concat (begins (length (v .layers)) v) (rootsFrom 0 (v .layers))) [] (normalizerOf v .stages)
   counted = normalized-keeps v w _ (counted-keeping v) (counted-start v)
 
-  one-each : (s : ℕ) → s < length (normalized v .stages) → putAt (normalized v .stages) s ≡ 1
+  one-each : (s : ℕ) → s < length (normalizerOf v .stages) → putAt (normalizerOf v .stages) s ≡ 1
   one-each s h = go (ltb s (length (v .stages))) refl
     where
-      go : (b : Bool) → ltb s (length (v .stages)) ≡ b → putAt (normalized v .stages) s ≡ 1
+      go : (b : Bool) → ltb s (length (v .stages)) ≡ b → putAt (normalizerOf v .stages) s ≡ 1
       go true e =
           let k : s < length (v .stages) = ltb-true _ _ e in
           omega (arith, counted .old s k, occurrences-nil s, begun-once v w s k)
       go false e = omega (arith, counted .new s (ltb-false _ _ e) h, occurrences-nil s)
 
-  pub set-once : all (λ ts. eqb (length ts) 1) (normalized v .stages) ≡ true
-  set-once = all-places [] (λ ts. eqb (length ts) 1) (normalized v .stages) (λ s h. eq-eqb _ _ (one-each s h))
+  pub set-once : all (λ ts. eqb (length ts) 1) (normalizerOf v .stages) ≡ true
+  set-once = all-places [] (λ ts. eqb (length ts) 1) (normalizerOf v .stages) (λ s h. eq-eqb _ _ (one-each s h))

@@ -14,7 +14,7 @@ use Rattle.records.proofs.Every.{every-at}
 use Rattle.records.proofs.Guards.{left-true, right-true}
 use Rattle.image.specs.Encode.{allActions, stagePorts, countsOfVir}
 use Rattle.image.specs.Kind.{all, concat}
-use Rattle.image.specs.LayerRules.{parentsBelow, listedOnce, listedByOwnLayer, interfacesLie, enteredFromParent, enteredOnce, divergesOut, divergeTo, targets, within, layerRules}
+use Rattle.image.specs.LayerRules.{parentsBelow, listedOnce, listedByOwnLayer, interfacesLie, enteredFromParent, enteredOnce, divergesOut, divergeTo, targets, liesWithin, layerRules}
 use Rattle.image.specs.Vir.{Action, Layer, Stage, Vir, layerOf, stageOf}
 use Rattle.wellformed.specs.WellFormed.{layerFits, stageFits, actionFits, portFits}
 use Rattle.normalizer.specs.Layered.{Layered}
@@ -36,14 +36,14 @@ pub record SourceFits (v : Vir) (layer t : ℕ) : Type 0 where
 
 module _ (v : Vir) (y : Layered v) where
   -- a climb by parents falls
-  within-falls : (n l outer : ℕ) → within v n l outer ≡ true → outer ≤ l
-  unfolding within
+  within-falls : (n l outer : ℕ) → liesWithin v n l outer ≡ true → outer ≤ l
+  unfolding liesWithin
   within-falls zero l outer h = absurd (true≢false (sym h))
   within-falls (suc n) l outer h = go (eqb l outer) (eqb (layerOf v l .parent) none) refl refl h (within-falls n (layerOf v l .parent) outer)
     where
       go : (here root : Bool) → eqb l outer ≡ here → eqb (layerOf v l .parent) none ≡ root
-          → (here || elim root [ true ↦ false | false ↦ within v n (layerOf v l .parent) outer ]) ≡ true
-          → (within v n (layerOf v l .parent) outer ≡ true → outer ≤ layerOf v l .parent) → outer ≤ l
+          → (here || elim root [ true ↦ false | false ↦ liesWithin v n (layerOf v l .parent) outer ]) ≡ true
+          → (liesWithin v n (layerOf v l .parent) outer ≡ true → outer ≤ layerOf v l .parent) → outer ≤ l
       go true root p q t r = omega (arith, eqb-true l outer p)
       go false true p q t r = absurd (true≢false (sym t))
       go false false p q t r = omega (arith, r t, parent-lower v y l (eqb-false (layerOf v l .parent) none q))
@@ -117,7 +117,7 @@ module _ (v : Vir) (y : Layered v) where
         (sym (all-concat (portFits c) (λ a. a .ports) (allActions v))
         ∙ all-right (portFits c) (stagePorts v) (concat (λ a. a .ports) (allActions v)) (y .formed .ports))
 
-    lower : (d : ℕ) → within v (length (v .layers)) (source .layer) d ≡ true → leb d l ≡ true
+    lower : (d : ℕ) → liesWithin v (length (v .layers)) (source .layer) d ≡ true → leb d l ≡ true
     lower d h =
         le-leb d l
         (omega (arith, own-layer, within-falls (length (v .layers)) (source .layer) d h))
@@ -125,8 +125,8 @@ module _ (v : Vir) (y : Layered v) where
     step-diverges : all (λ a. all (λ d. leb d l) (divergeTo (a .step))) (source .steps) ≡ true
     step-diverges =
         sym (all-concat (λ d. leb d l) (λ a. divergeTo (a .step)) (source .steps))
-        ∙ all-imp (within v (length (v .layers)) (source .layer)) (λ d. leb d l) lower (targets source)
-        (every-at (λ t. all (within v (length (v .layers)) (stageOf v t .layer)) (targets (stageOf v t))) (length (v .stages)) t diverges-out inside-source)
+        ∙ all-imp (liesWithin v (length (v .layers)) (source .layer)) (λ d. leb d l) lower (targets source)
+        (every-at (λ t. all (liesWithin v (length (v .layers)) (stageOf v t .layer)) (targets (stageOf v t))) (length (v .stages)) t diverges-out inside-source)
 
     pub source-fits : SourceFits v l t
     source-fits =

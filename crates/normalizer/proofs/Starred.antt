@@ -3,8 +3,8 @@ use mathlib.Core.Path.{refl}
 use Rattle.effect.specs.Example.{Hold}
 use Rattle.image.specs.Samples.{split}
 use Rattle.normalizer.specs.Starred.{starred}
-use Rattle.normalizer.proofs.Computed.{normalised}
+use Rattle.normalizer.proofs.Computed.{normaliseNumbers}
 
 pub hold : Hold starred
-unfolding starred normalised split
+unfolding starred normaliseNumbers split
 hold = (refl, tt)

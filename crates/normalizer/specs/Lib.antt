@@ -1,7 +1,7 @@
 pub mod Divergence
 pub mod Layered
-pub mod Normalise
 pub mod Normalize
 pub mod OpenWires
+pub mod Outcome
 pub mod Starred
 pub mod Worked

@@ -13,7 +13,7 @@ use Rattle.vir.specs.declared.step.Onward.{Onward}
 use Rattle.vir.specs.declared.step.Onward.the-variants.{To, Nowhere}
 use Rattle.vir.specs.declared.step.Step.{Step}
 use Rattle.vir.specs.declared.step.Step.the-variants.{Invoke, Transfer, Diverge, Link, Call, Const, Composite, Rewrap, Enum, Union, Ref, List as Listing, String, InlineIvy, BoolNot, BoolAnd}
-use Rattle.vir.specs.Ids.{none, inv, idx, inverse}
+use Rattle.vir.specs.Ids.{none, isInverse, idx, inverse}
 use Rattle.image.specs.LayerRules.{transferTo}
 use Rattle.image.specs.Loops.{each}
 use Rattle.image.specs.Vir.{Action, Flex, Interface, Layer, Local, Port, Stage, Vir, layerOf, stageOf}
@@ -35,7 +35,7 @@ pub record Piece : Type 0 where
   pub stage : Stage
   pub openWires : List Open
 
--- `self.stages[id] = Some(stage)`
+-- `self.stages[id] = Some(stage)`. (`stages` changes)
 abbrev pub putStage : ℕ → Stage → Normalizer → Normalizer
 putStage id t n = record {
   locals = n .locals;
@@ -44,7 +44,7 @@ putStage id t n = record {
   finalTransfers = n .finalTransfers;
 }
 
--- `self.final_transfers[layer] = Some(Transfer::unconditional(interface))`
+-- `self.final_transfers[layer] = Some(Transfer::unconditional(interface))`. (`finalTransfers` changes)
 abbrev pub setFinal : ℕ → ℕ → Normalizer → Normalizer
 setFinal layer interface n = record {
   locals = n .locals;
@@ -56,7 +56,7 @@ setFinal layer interface n = record {
 abbrev pub finalOf : ℕ → Normalizer → ℕ
 finalOf layer n = getD (n .finalTransfers) layer none
 
--- `stage.steps.push(..)`
+-- `stage.steps.push(..)`. (`steps` changes)
 abbrev pub pushStep : Action → Stage → Stage
 pushStep a t = record {
   span = t .span;
@@ -72,7 +72,7 @@ pushStep a t = record {
   payload = t .payload;
 }
 
--- `stage.declarations.push(local)`
+-- `stage.declarations.push(local)`. (`declarations` changes)
 abbrev pub declare : ℕ → Stage → Stage
 declare l t = record {
   span = t .span;
@@ -120,7 +120,7 @@ newStage source interface = record {
   payload = [];
 }
 
--- `self.stages.push(None)` and `self.interfaces.push(Interface::new(.., Unconditional(new_stage)))`
+-- `self.stages.push(None)` and `self.interfaces.push(Interface::new(.., Unconditional(new_stage)))`. (`interfaces` and `stages` change)
 abbrev pub pushPiece : Normalizer → Normalizer
 pushPiece n = record {
   locals = n .locals;
@@ -133,8 +133,9 @@ pushPiece n = record {
 abbrev pub flagsOf : List Flex → ℕ → ℕ
 flagsOf types ty =
     let flex = getD types (idx ty) (record { upright = 0; inverted = 0 }) in
-    elim (inv ty) [ true ↦ flex .inverted | false ↦ flex .upright ]
+    elim (isInverse ty) [ true ↦ flex .inverted | false ↦ flex .upright ]
 
+-- `self.locals.push(..)`. (`locals` changes)
 abbrev pub pushLocal : Local → Normalizer → Normalizer
 pushLocal l n = record {
   locals = n .locals ++ (l ∷ []);
@@ -208,6 +209,23 @@ jump v deep interface a (BoolAnd k) n = record { normalizer = n; steps = [] }
 abbrev pub pushSteps : List Action → Stage → Stage
 pushSteps as' t = each pushStep as' t
 
+-- a step's own ports before the test. (`openWires` changes)
+abbrev pub opened : Action → Piece → Piece
+opened a p =
+    record { normalizer = p .normalizer; id = p .id; stage = p .stage; openWires = each updateOpenWires (a .ports) (p .openWires) }
+
+-- behind the loop: the stage's own transfer with its data port, else the layer's final one, if any
+abbrev pub ended : Stage → ℕ → Piece → Normalizer
+ended source layer p =
+    putStage (p .id)
+    (pushSteps
+    (elim (eqb (source .transfer) none) [
+      | true ↦ transferStep (finalOf layer (p .normalizer)) []
+      | false ↦ transferStep (source .transfer) (source .payload)
+    ])
+    (p .stage))
+    (p .normalizer)
+
 module _ (v : Vir) (deep : ℕ → Normalizer → Normalizer) (source : Stage) where
   -- `if self.step_divergence(step) <= layer.id`: the old stage is finished, and the new one goes on with the same open wires
   abbrev pub splitAt : Action → Piece → Piece
@@ -243,11 +261,6 @@ module _ (v : Vir) (deep : ℕ → Normalizer → Normalizer) (source : Stage) w
         openWires = p .openWires;
       }
 
-  -- a step's own ports before the test
-  abbrev pub opened : Action → Piece → Piece
-  opened a p =
-      record { normalizer = p .normalizer; id = p .id; stage = p .stage; openWires = each updateOpenWires (a .ports) (p .openWires) }
-
   -- the body of `for step in &source.steps`
   abbrev pub stepped : ℕ → Action → Piece → Piece
   stepped layer a p =
@@ -256,22 +269,10 @@ module _ (v : Vir) (deep : ℕ → Normalizer → Normalizer) (source : Stage) w
         | false ↦ goOn a (opened a p)
       ]
 
-  -- behind the loop: the stage's own transfer with its data port, else the layer's final one, if any
-  abbrev pub ended : ℕ → Piece → Normalizer
-  ended layer p =
-      putStage (p .id)
-      (pushSteps
-      (elim (eqb (source .transfer) none) [
-        | true ↦ transferStep (finalOf layer (p .normalizer)) []
-        | false ↦ transferStep (source .transfer) (source .payload)
-      ])
-      (p .stage))
-      (p .normalizer)
-
   -- the body of `for &stage in &layer.stages`
   abbrev pub normalizeStage : ℕ → ℕ → Normalizer → Normalizer
   normalizeStage layer t n =
-      ended layer
+      ended source layer
       (each (stepped layer) (source .steps)
       (record { normalizer = n; id = t; stage = pieceOf source; openWires = each updateOpenWires (source .ports) [] }))
 
@@ -296,8 +297,8 @@ begun v = record {
   finalTransfers = replicate (length (v .layers)) none;
 }
 
-unfoldable pub normalized : Vir → Normalizer
-normalized v = roots v 0 (v .layers) (begun v)
+unfoldable pub normalizerOf : Vir → Normalizer
+normalizerOf v = roots v 0 (v .layers) (begun v)
 
 -- `unwrap_idx_vec`: `set-once` says that each list has one stage
 abbrev pub unwrap : List Stage → Stage
@@ -306,8 +307,8 @@ unwrap ts = getD ts 0 (newStage (stageOf (record { layers = []; interfaces = [];
 unfoldable pub normalize : Vir → Vir
 normalize v = record {
   layers = [];
-  interfaces = normalized v .interfaces;
-  stages = map unwrap (normalized v .stages);
-  locals = normalized v .locals;
+  interfaces = normalizerOf v .interfaces;
+  stages = map unwrap (normalizerOf v .stages);
+  locals = normalizerOf v .locals;
   types = v .types;
 }

@@ -3,7 +3,7 @@ use mathlib.Core.List.{List, [], _∷_}
 use Rattle.effect.specs.Example.{Example}
 use Rattle.image.specs.Call.{numbers}
 use Rattle.image.specs.Samples.{split}
-use Rattle.normalizer.specs.Normalise.{normaliseOf}
+use Rattle.normalizer.specs.Outcome.{normaliseOf}
 
 -- two stages; stage 0 has no step, stage 1 one Transfer
 unfoldable pub starred : List Example

@@ -3,7 +3,7 @@ use mathlib.Core.List.{List, [], _∷_}
 use Prim.Native.Nat.{ℕ}
 use Rattle.effect.specs.Example.{Example}
 use Rattle.image.specs.Call.{numbers}
-use Rattle.normalizer.specs.Normalise.{normaliseOf}
+use Rattle.normalizer.specs.Outcome.{normaliseOf}
 
 -- an image, and the bytes of its flat image
 abbrev flattens : List ℕ → List ℕ → Example

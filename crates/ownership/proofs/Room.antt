@@ -15,11 +15,11 @@ use Rattle.image.specs.Check.{checkOf}
 use Rattle.image.specs.Encode.{encode, countsOfVir}
 use Rattle.image.specs.View.{view}
 use Rattle.image.specs.Vir.{Vir}
-use Rattle.normalizer.specs.Normalise.{laidOut, normaliseOf}
+use Rattle.normalizer.specs.Outcome.{laidOut, normaliseOf}
 use Rattle.normalizer.specs.Normalize.{normalize}
 use Rattle.normalizer.proofs.OfImages.{fits as normalise-fits}
 use Rattle.report.specs.Report.{reportBytes}
-use Rattle.analyzer.specs.Analyse.{analyseOf}
+use Rattle.analyzer.specs.Outcome.{analyseOf}
 use Rattle.analyzer.specs.Analyze.{analyze}
 use Rattle.analyzer.proofs.OfImages.{fits as analyse-fits}
 use Rattle.ownership.specs.Promises.{Lent, roomy, outcomeIn, leaves}

@@ -4,8 +4,8 @@ use mathlib.Core.List.{List}
 use Prim.Native.Nat.{ℕ}
 use Rattle.image.specs.declared.answer.Answer.{Answer}
 use Rattle.image.specs.Call.{Outcome}
-use Rattle.normalizer.specs.Normalise.{normaliseOf}
-use Rattle.analyzer.specs.Analyse.{analyseOf}
+use Rattle.normalizer.specs.Outcome.{normaliseOf}
+use Rattle.analyzer.specs.Outcome.{analyseOf}
 use Rattle.ownership.specs.Promises.{Checked, Lent, Reply, Called, Normalised, Analysed}
 
 pub check-unique : (bytes : List ℕ) (a b : Answer) → Checked bytes a → Checked bytes b → a ≡ b

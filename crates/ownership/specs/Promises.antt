@@ -8,8 +8,8 @@ use lib.ListN.{length, drop, replicate}
 use Rattle.image.specs.declared.answer.Answer.{Answer}
 use Rattle.image.specs.Call.{Outcome, refusal}
 use Rattle.image.specs.Check.{checkOf}
-use Rattle.normalizer.specs.Normalise.{normaliseOf}
-use Rattle.analyzer.specs.Analyse.{analyseOf}
+use Rattle.normalizer.specs.Outcome.{normaliseOf}
+use Rattle.analyzer.specs.Outcome.{analyseOf}
 
 -- check: the one answer that document 01 fixes
 pub record Checked (bytes : List ℕ) (r : Answer) : Type 0 where

@@ -16,7 +16,7 @@ use Rattle.vir.specs.declared.step.Step.the-variants.{Diverge}
 use Rattle.vir.specs.declared.step.FoundStep.{FoundStep}
 use Rattle.vir.specs.declared.step.FoundStep.the-variants.{Step as Found, Nothing}
 use Rattle.vir.specs.Header.{headers, headerOf}
-use Rattle.vir.specs.Ids.{none, layerOf}
+use Rattle.vir.specs.Ids.{none, layerIdOf}
 use Rattle.vir.specs.Interface.{kinds, kindOf}
 use Rattle.vir.specs.Step.{steps, stepOf}
 use Rattle.records.specs.declared.layout.Counts.{Counts}
@@ -137,7 +137,7 @@ module _ (c : Counts) (t : StepRecord) where
   step-transfers h = ap₂ _&&_ (sym (ap has h)) (named-transfer c t (omega (arith, h)) h)
 
   -- 0 or 1, 0 without an interface
-  diverges : (x : Bool) → ((not x || eqb n 0) && leb n 1) ≡ stepHas (Found (Diverge (layerOf (t .a)) (cond x Nowhere (To (record { 0 = t .b }))))) n
+  diverges : (x : Bool) → ((not x || eqb n 0) && leb n 1) ≡ stepHas (Found (Diverge (layerIdOf (t .a)) (cond x Nowhere (To (record { 0 = t .b }))))) n
   diverges false = refl
   diverges true = go (eqb n 0) refl
     where

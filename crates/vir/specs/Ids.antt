@@ -9,16 +9,16 @@ abbrev pub none : ℕ
 none = 65535
 
 -- the layer that 32 bits name; none is the largest number
-abbrev pub layerOf : ℕ → LayerId
-layerOf a = record { 0 = min a none }
+abbrev pub layerIdOf : ℕ → LayerId
+layerIdOf a = record { 0 = min a none }
 
 -- the type with bit 15, which says inverse, turned
 abbrev pub inverse : ℕ → ℕ
 inverse t = cond (ltb t 32768) (t + 32768) (t - 32768)
 
 -- whether a type is an inverse
-abbrev pub inv : ℕ → Bool
-inv t = leb 32768 t
+abbrev pub isInverse : ℕ → Bool
+isInverse t = leb 32768 t
 
 -- the type's number without that bit
 abbrev pub idx : ℕ → ℕ

@@ -14,7 +14,7 @@ use Rattle.vir.specs.declared.step.Step.{Step}
 use Rattle.vir.specs.declared.step.Step.the-variants.{Invoke, Transfer, Diverge, Link, Call, Const, Composite, Rewrap, Enum, Union, Ref, List as Listing, String, InlineIvy, BoolNot, BoolAnd}
 use Rattle.vir.specs.declared.step.FoundStep.{FoundStep}
 use Rattle.vir.specs.declared.step.FoundStep.the-variants.{Step as Found, Nothing}
-use Rattle.vir.specs.Ids.{none, layerOf}
+use Rattle.vir.specs.Ids.{none, layerIdOf}
 use Rattle.vir.specs.Invocation.{invocationNumber, invocationPorts}
 
 -- tags 0 to 5 are the invocations, in their order
@@ -53,7 +53,7 @@ steps a b =
     invoke a b BarrierWrite ∷
     invoke a b ReadWrite ∷
     Found (Transfer (record { 0 = b })) ∷
-    Found (Diverge (layerOf a) (onwardOf b)) ∷
+    Found (Diverge (layerIdOf a) (onwardOf b)) ∷
     Found (Link a) ∷
     Found (Call a) ∷
     Found (Const a) ∷

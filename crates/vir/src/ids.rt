@@ -1,6 +1,6 @@
 // One tuple struct for each kind of number, as new_idx! has them, so that none is taken for another.
 ghost use mathlib.Core.Path.{_≡_};
-ghost use Rattle.vir.specs.Ids.{layerOf, inverse, inv, idx};
+ghost use Rattle.vir.specs.Ids.{layerIdOf, inverse, isInverse, idx};
 
 pub struct LayerId(pub u16);
 
@@ -28,7 +28,7 @@ impl LayerId {
 
     // The layer that a step names in 32 bits; NONE where no layer can have that number.
     pub fn from_target(a: u32) -> LayerId
-        ensures { λ r. ⌜ r ≡ layerOf a ⌝ }
+        ensures { λ r. ⌜ r ≡ layerIdOf a ⌝ }
     {
         if a < 65535 {
             LayerId(a as u16)
@@ -54,7 +54,7 @@ impl Type {
     }
 
     pub fn inv(self) -> bool
-        ensures { λ r. ⌜ r ≡ inv (self .0) ⌝ }
+        ensures { λ r. ⌜ r ≡ isInverse (self .0) ⌝ }
     {
         32768 <= self.0
     }
