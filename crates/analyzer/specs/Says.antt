@@ -12,15 +12,15 @@ use Rattle.report.specs.Report.{Diag, most, verdict, half}
 use Rattle.solve.specs.Least.{total}
 use Rattle.analyzer.specs.Analyze.{processed}
 use Rattle.analyzer.specs.Demand.{LeastFor, wireBy}
-use Rattle.analyzer.specs.Reported.{answersIn, takesIn, evaluationsIn, locals, allDiags}
+use Rattle.analyzer.specs.Reported.{answersIn, takesIn, evaluationsIn, locals as localsOf, allDiags}
 use Rattle.analyzer.specs.Sweep.{incomingOf}
 
 pub record Says (span : ℕ) (v : Vir) (s : List ℕ) : Type 0 where
   pub interfaces : u16At s 5 ≡ length (v .interfaces)
   pub locals : u16At s 7 ≡ length (v .locals)
   pub verdict : u8At s 9 ≡ verdict (allDiags span v)
-  pub takes : u32At s 10 ≡ total (λ l. takesIn (answersIn v l)) (locals v)
-  pub evaluations : u32At s 14 ≡ total (λ l. evaluationsIn (answersIn v l)) (locals v)
+  pub takes : u32At s 10 ≡ total (λ l. takesIn (answersIn v l)) (localsOf v)
+  pub evaluations : u32At s 14 ≡ total (λ l. evaluationsIn (answersIn v l)) (localsOf v)
   pub total : u32At s 18 ≡ length (allDiags span v)
   pub kept : u16At s 22 ≡ min (length (allDiags span v)) most
   pub incoming : (i : ℕ) → i < length (v .interfaces) → u32At s (incomingAt i) ≡ getD (incomingOf v) i 0
