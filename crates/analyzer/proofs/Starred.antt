@@ -7,4 +7,4 @@ use Rattle.analyzer.proofs.Computed.{analyseNumbers}
 
 pub hold : Hold starred
 unfolding starred analyseNumbers example
-hold = (refl, tt)
+hold = (refl, (refl, tt))

@@ -21,8 +21,9 @@ use Rattle.image.proofs.Diverging.{occurrences-append}
 use Rattle.image.proofs.Viewing.{getD-collect}
 use Rattle.wellformed.proofs.Plain.{fitting}
 use Rattle.normalizer.specs.Layered.{Layered}
+use Rattle.normalizer.specs.Once.{SetOnce}
 use Rattle.normalizer.specs.Normalize.{normalizerOf, unwrap, normalize}
-use Rattle.normalizer.proofs.Formed.{SetOnce, stages-length, facts, good-at, normal-formed}
+use Rattle.normalizer.proofs.Formed.{stages-length, facts, good-at, normal-formed}
 use Rattle.normalizer.proofs.Members.{all-one, all-imp}
 use Rattle.normalizer.proofs.Sound.{single, Shape, Good, as-many, stages-grow}
 

@@ -19,16 +19,13 @@ use Rattle.image.specs.Vir.{Stage, Vir}
 use Rattle.image.proofs.Lists.{lists-none}
 use Rattle.wellformed.specs.WellFormed.{WellFormed, layerFits, interfaceFits, stageFits, actionFits, portFits}
 use Rattle.normalizer.specs.Layered.{Layered}
+use Rattle.normalizer.specs.Once.{SetOnce}
 use Rattle.normalizer.specs.Normalize.{begun, normalizerOf, unwrap, normalize}
 use Rattle.normalizer.proofs.Fitting.{interface-fits-on}
 use Rattle.normalizer.proofs.FactsKept.{roots-keep}
 use Rattle.normalizer.proofs.Members.{both-true, all-none, all-one, all-join, all-at, all-from, all-imp, all-concat, Holds, holds-first}
 use Rattle.normalizer.proofs.Sound.{single, Good, Facts, stages-grow}
 use Rattle.normalizer.proofs.Whole.{whole}
-
--- every stage was put exactly once
-abbrev pub SetOnce : Vir → Type 0
-SetOnce v = all (λ ts. eqb (length ts) 1) (normalizerOf v .stages) ≡ true
 
 getD-replicated : {A : Type 0} (n t : ℕ) (d : A) → getD (replicate n d) t d ≡ d
 getD-replicated zero t d = refl

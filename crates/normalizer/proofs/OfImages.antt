@@ -20,10 +20,11 @@ use Rattle.wellformed.proofs.Answered.{written-flat}
 use Rattle.wellformed.proofs.Found.{layered-found, rules-found, wanted}
 use Rattle.wellformed.proofs.Viewed.{viewed}
 use Rattle.normalizer.specs.Layered.{Layered}
+use Rattle.normalizer.specs.Once.{SetOnce}
 use Rattle.normalizer.specs.Outcome.{laidOut, normaliseOf}
 use Rattle.normalizer.specs.Normalize.{normalize}
 use Rattle.normalizer.proofs.Flat.{normal-flat}
-use Rattle.normalizer.proofs.Formed.{SetOnce, normal-formed}
+use Rattle.normalizer.proofs.Formed.{normal-formed}
 use Rattle.normalizer.proofs.Once.{set-once}
 
 -- an image that check accepts as layered
@@ -41,6 +42,10 @@ laid v h = go (within (countsOfVir v)) h
     go true e = (refl, refl)
     go false e = absurd (omega arith)
 
+-- .. has each of its stages set exactly once, also where the result is over a maximum: the Rust's unwrap cannot fail
+pub once : (s : List ℕ) → Bytes s → checkOf s .code ≡ 0 → checkOf s .kind ≡ 2 → SetOnce (view s)
+once s small h k = set-once (view s) (layered s small h k)
+
 module _ (s : List ℕ) (small : Bytes s) (h : normaliseOf s .code ≡ 0) where
   -- normalise's code 0 is check's, with kind 2
   took : (checkOf s .code ≡ 0) × (checkOf s .kind ≡ 2) × (laidOut (normalize (view s)) .code ≡ 0) × (normaliseOf s .bytes ≡ laidOut (normalize (view s)) .bytes)
@@ -57,12 +62,9 @@ module _ (s : List ℕ) (small : Bytes s) (h : normaliseOf s .code ≡ 0) where
           (w .0, w .1, k, refl)
       go false e k = absurd (eqb-false _ 0 e k)
 
-  -- so its value is layered, each stage is set once, and the result is within the maxima
+  -- so its value is layered, and the result is within the maxima
   pub source : Layered (view s)
   source = layered s small (took .0) (took .1)
-
-  pub once : SetOnce (view s)
-  once = set-once (view s) source
 
   inside : within (countsOfVir (normalize (view s))) ≡ true
   inside = laid (normalize (view s)) (took .2) .0
@@ -74,7 +76,7 @@ module _ (s : List ℕ) (small : Bytes s) (h : normaliseOf s .code ≡ 0) where
   pub written-accepted : checkOf (normaliseOf s .bytes) ≡ record { code = 0; place = 0; kind = 1 }
   written-accepted =
       ap checkOf written
-      ∙ written-flat (normalize (view s)) (normal-formed (view s) source once inside) (normal-flat (view s) source once inside)
+      ∙ written-flat (normalize (view s)) (normal-formed (view s) source (set-once (view s) source) inside) (normal-flat (view s) source (set-once (view s) source) inside)
 
   -- and it has room wherever an image has
   pub fits : length (normaliseOf s .bytes) ≤ 63893

@@ -9,6 +9,7 @@ use lib.Dec.{eqb}
 use Rattle.records.specs.Bytes.{Bytes}
 use Rattle.image.specs.declared.answer.Answer.{Answer}
 use Rattle.records.specs.Layout.{countsOf}
+use Rattle.image.specs.Accepted.{Accepted}
 use Rattle.image.specs.Call.{kindFound, codeFor}
 use Rattle.image.specs.Check.{kindAnswer, checkOf}
 use Rattle.image.specs.Encode.{encode}
@@ -16,20 +17,28 @@ use Rattle.image.specs.Kind.{kindOfVir, listed, listedByOwn, layered, flat}
 use Rattle.image.specs.LayerRules.{layerRules}
 use Rattle.image.specs.View.{view}
 use Rattle.image.specs.Vir.{Vir}
+use Rattle.image.proofs.Accepting.{accepted}
 use Rattle.image.proofs.Answering.{byKind, within-sized}
 use Rattle.image.proofs.RoundTrip.{encode-view}
 use Rattle.wellformed.proofs.Answered.{written}
 use Rattle.wellformed.proofs.Taken.{Taken, taken}
 use Rattle.wellformed.proofs.Viewed.{viewed}
 
+-- an accepted image is what its value is written out as
+pub rewritten : (s : List ℕ) → Bytes s → checkOf s .code ≡ 0 → encode (view s) ≡ s
+rewritten s small h =
+    let t : Taken s = taken s h in
+    encode-view s {r = t .last} small (within-sized s (countsOf s) (t .counted) (t .long)) (t .mark) (t .clean) (t .own)
+
+-- .. and has what later code may rely on
+pub accepted-found : (s : List ℕ) → checkOf s .code ≡ 0 → Accepted s (countsOf s)
+accepted-found s h =
+    let t : Taken s = taken s h in
+    accepted s (countsOf s) (t .last) (within-sized s (countsOf s) (t .counted) (t .long)) (t .clean)
+
 -- an accepted image has the answer that its value's kind and layer rules give
 pub answered : (s : List ℕ) → Bytes s → checkOf s .code ≡ 0 → checkOf s ≡ kindAnswer (view s)
-answered s small h =
-    let t : Taken s = taken s h in
-    let again : encode (view s) ≡ s =
-    encode-view s {r = t .last} small (within-sized s (countsOf s) (t .counted) (t .long)) (t .mark) (t .clean) (t .own)
-    in
-    ap checkOf (sym again) ∙ written (view s) (viewed s small h)
+answered s small h = ap checkOf (sym (rewritten s small h)) ∙ written (view s) (viewed s small h)
 
 -- there are three kinds
 third : (v : Vir) → (kindOfVir v ≡ 0 → ⊥) → (kindOfVir v ≡ 1 → ⊥) → kindOfVir v ≡ 2
