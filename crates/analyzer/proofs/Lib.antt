@@ -21,6 +21,7 @@ pub mod Onward
 pub mod Ranges
 pub mod Reports
 pub mod Said
+pub mod Saying
 pub mod Seeds
 pub mod Setting
 pub mod Silence

@@ -1,5 +1,5 @@
 -- Demand 3, of images: whatever analyse takes is flat and well formed, and its report has what demand 3 says of each local.
-use mathlib.Core.Path.{_≡_, refl, ap}
+use mathlib.Core.Path.{_≡_, refl, sym, ap, subst}
 use mathlib.Core.Bool.{Bool, true, false}
 use mathlib.Core.List.{List}
 use Prim.Native.Nat.{ℕ, _≤_}
@@ -19,8 +19,10 @@ use Rattle.analyzer.specs.Analyze.{analyze}
 use Rattle.analyzer.specs.Demand.{Demand}
 use Rattle.analyzer.specs.Flat.{Flat}
 use Rattle.analyzer.specs.Reported.{Reported}
+use Rattle.analyzer.specs.Says.{Says}
 use Rattle.analyzer.proofs.Demand.{demand}
 use Rattle.analyzer.proofs.Reports.{reported, report-fits}
+use Rattle.analyzer.proofs.Saying.{says-of}
 
 module _ (span : ℕ) (s : List ℕ) (small : Bytes s) (h : analyseOf span s .code ≡ 0) where
   -- analyse's code 0 is check's, with kind 1, and its bytes are the report's
@@ -51,6 +53,10 @@ module _ (span : ℕ) (s : List ℕ) (small : Bytes s) (h : analyseOf span s .co
   -- .. and the report has it
   pub reports : Reported span (view s)
   reports = reported (view s) span
+
+  -- .. in its bytes, field by field
+  pub says : Says span (view s) (analyseOf span s .bytes)
+  says = subst (Says span (view s)) (sym bytes) (says-of span (view s) (source .formed))
 
   -- it has room wherever an image has
   pub fits : length (analyseOf span s .bytes) ≤ 63893

@@ -4,6 +4,7 @@ pub mod AtMost
 pub mod Clean
 pub mod Climbing
 pub mod Computed
+pub mod Concat
 pub mod Deciding
 pub mod Diverging
 pub mod Entered

@@ -1,9 +1,9 @@
 -- A value that is written out as an image is read back from it.
-use mathlib.Core.Path.{_≡_, _∙_, refl, sym, ap}
+use mathlib.Core.Path.{_≡_, _∙_, refl, ap}
 use mathlib.Core.Bool.{Bool, true}
 use mathlib.Core.List.{List, [], _∷_, _++_}
 use Prim.Native.Nat.{ℕ, suc, _+_, _*_}
-use native.Mathlib.Nat.{zero-add, mul-zero, mul-suc, add-comm}
+use native.Mathlib.Nat.{zero-add}
 use native.Mathlib.Omega.{arith}
 use lib.ListN.{length, length-append}
 use Rattle.records.specs.declared.layout.Counts.{Counts}
@@ -13,6 +13,7 @@ use Rattle.image.specs.Kind.{all, concat}
 use Rattle.records.specs.Layout.{countsOf, layersAt, interfacesAt, stagesAt, localsAt, typesAt, stepsAt, portsAt, refsAt, lengthOf}
 use Rattle.image.specs.View.{collect, headerIn, kindIn, portIn, stepIn, portOfRecord, actionOfRecord, layerOfRecord, interfaceOfRecord, stageOfRecord, localOfRecord, flexOfRecord, viewOf, view}
 use Rattle.image.specs.Vir.{Layer, Interface, Port, Action, Stage, Local, Flex, Vir}
+use Rattle.image.proofs.Concat.{length-concat}
 use Rattle.image.proofs.Gathered.{nthRef, nthPort, nthAction, nthFlex, nthLocal, nthStage, nthInterface, nthLayer}
 use Rattle.records.proofs.Guards.{left-true, right-true}
 use Rattle.image.proofs.Named.{kind-found, header-found, port-found, step-found}
@@ -138,13 +139,6 @@ unfolding actionsBytes
 length-actions ports [] = refl
 length-actions ports (y ∷ l) = omega (arith, length-actions (ports + length (y .ports)) l)
 
-length-concat : {A : Type 0} (g : A → List ℕ) (n : ℕ) → ((x : A) → length (g x) ≡ n) → (l : List A) → length (concat g l) ≡ n * length l
-unfolding concat
-length-concat g n e [] = sym (mul-zero n)
-length-concat g n e (x ∷ l) =
-    let rest : length (concat g l) ≡ n * length l = length-concat g n e l in
-    length-append (g x) (concat g l) ∙ (λ i. e x i + rest i) ∙ add-comm n (n * length l) ∙ sym (mul-suc n (length l))
-
 grown : (l m : List ℕ) {a n : ℕ} → length l ≡ a → length m ≡ n → length (l ++ m) ≡ a + n
 grown l m p q = length-append l m ∙ (λ i. p i + q i)
 
@@ -200,20 +194,20 @@ module _ (v : Vir) where
       grown to-stages stages-part stages-start (length-stages (length (layerRefs v) + length (interfaceRefs v)) 0 0 (v .stages))
 
   types-start : length to-types ≡ typesAt counts
-  types-start = grown to-locals (concat localBytes (v .locals)) locals-start (length-concat localBytes 7 (λ l. refl) (v .locals))
+  types-start = grown to-locals (concat localBytes (v .locals)) locals-start (length-concat localBytes 7 (v .locals) (λ d k h. refl))
 
   steps-start : length to-steps ≡ stepsAt counts
-  steps-start = grown to-types (concat flexBytes (v .types)) types-start (length-concat flexBytes 2 (λ t. refl) (v .types))
+  steps-start = grown to-types (concat flexBytes (v .types)) types-start (length-concat flexBytes 2 (v .types) (λ d k h. refl))
 
   ports-start : length to-ports ≡ portsAt counts
   ports-start = grown to-steps steps-part steps-start (length-actions (length (stagePorts v)) (allActions v))
 
   refs-start : length to-refs ≡ refsAt counts
-  refs-start = grown to-ports (concat portBytes (allPorts v)) ports-start (length-concat portBytes 9 (λ p. refl) (allPorts v))
+  refs-start = grown to-ports (concat portBytes (allPorts v)) ports-start (length-concat portBytes 9 (allPorts v) (λ d k h. refl))
 
   pub encode-length : length (encode v) ≡ lengthOf counts
   unfolding encode
-  encode-length = grown to-refs (concat u16Bytes (allRefs v)) refs-start (length-concat u16Bytes 2 (λ n. refl) (allRefs v))
+  encode-length = grown to-refs (concat u16Bytes (allRefs v)) refs-start (length-concat u16Bytes 2 (allRefs v) (λ d k h. refl))
 
   abbrev Here : ℕ → List ℕ → Type 0
   Here = Stands (u8At (encode v))
