@@ -32,16 +32,21 @@ fn text(line: &str, input: &[u8]) -> String {
     String::from_utf8(bytes(line, input)).unwrap()
 }
 
+/// A misuse gets the usage and status 2.
+fn misused(line: &str, input: &[u8]) {
+    let Outcome { status, out, err } = asked(line, input);
+    assert_eq!((status, out), (2, vec![]), "{line}");
+    assert!(err.ends_with(&usage()) && err.lines().count() == 1 + usage().lines().count(), "{line}");
+}
+
 #[test]
 fn a_misuse_gets_the_usage_and_status_2() {
     let image = bytes("sample example", b"");
     let lines = "|nothing|show 1|sample|sample nothing|generate FlatSmall|generate Nothing 1\
         |generate FlatSmall -1|generate FlatSmall 18446744073709551616|report 1|picture|help me\
-        |families|families 1 2|slips many|slips 1 2|evaluate 1 2|compare 1 2|bench 1";
+        |families|families 1 2|slips 1 2|evaluate 1 2|compare 1 2|bench 1";
     for line in lines.split('|') {
-        let Outcome { status, out, err } = asked(line, &image);
-        assert_eq!((status, out), (2, vec![]), "{line}");
-        assert!(err.ends_with(&usage()) && err.lines().count() == 1 + usage().lines().count(), "{line}");
+        misused(line, &image);
     }
 }
 
@@ -123,7 +128,7 @@ fn compare_takes_a_number_or_none() {
     assert!(text("compare 30", b"").starts_with("30 images answered alike; by code 0: "));
     assert!(text("compare", b"").starts_with("20000 images"));
     for line in ["compare -1", "compare many"] {
-        assert_eq!(asked(line, b"").status, 2, "{line}");
+        misused(line, b"");
     }
 }
 
@@ -134,8 +139,8 @@ fn families_has_a_line_for_each_and_one_for_all() {
     let names = Family::ALL.iter().map(family_name).chain(["in all".into()]);
     assert!(counted.lines().zip(names).all(|(line, name)| line.starts_with(&format!("{name}: codes"))));
     assert_eq!(counted.lines().count(), Family::ALL.len() + 1);
-    for line in ["families many", "evaluate many"] {
-        assert_eq!(asked(line, b"").status, 2, "{line}");
+    for line in ["families many", "slips many", "evaluate many"] {
+        misused(line, b"");
     }
 }
 
@@ -156,7 +161,7 @@ fn slips_has_four_lines_for_each() {
 fn a_local_without_a_picture_gets_a_line_and_status_1() {
     let Outcome { status, out, err } = asked("picture 1", &bytes("sample example", b""));
     assert_eq!((status, out, err.as_str()), (1, vec![], "local 1 is not processed\n"));
-    assert_eq!(asked("picture 65536", b"").status, 2);
+    misused("picture 65536", b"");
 }
 
 /// Document 01's answers to its examples.
