@@ -2,10 +2,7 @@
 
 use std::io::Read;
 
-use harness::{
-    bench::{ROUNDS, subjects, table},
-    port,
-};
+use harness::bench::{ROUNDS, subjects, table};
 
 use super::command::{Answer, failed};
 

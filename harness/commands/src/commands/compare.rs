@@ -2,10 +2,7 @@
 
 use std::io::Read;
 
-use harness::{
-    compare::{compare, images},
-    port,
-};
+use harness::compare::{compare, images};
 
 use super::{
     command::{Answer, failed},
