@@ -5,9 +5,6 @@
 # LLVM module is taken instead, which the kit's clang compiles for the machine: a shadow of the kit (links to its entries) has a
 # clang that keeps the module before it calls the real one. That is for tests and measuring only; what is shipped is the archive.
 #
-# Either way each function starts at a cache line, as the harness's own do (.cargo/config.toml): else what is linked beside it decides
-# how its loops lie, and with that how fast they are.
-#
 # LINK_FROM=module takes the second way on x86-64 too, LINK_TARGET=TRIPLE compiles for another machine than this one.
 set -eu
 
@@ -43,11 +40,6 @@ EOF
     chmod +x "$own/toolchain/bin/clang"
 }
 
-aligned() { # NAME
-    command -v objcopy >/dev/null || die "objcopy of binutils is not on the PATH"
-    objcopy --set-section-alignment '.text.*=64' "$root/target/staticlib/lib$1.a" "$out/lib$1.a"
-}
-
 archive() { # NAME
     (cd "$root" && rt staticlib "$1") >"$out/$1.log" 2>&1 || { cat "$out/$1.log" >&2; die "rt staticlib $1 failed"; }
 }
@@ -59,7 +51,7 @@ module() { # NAME
     RATTLE_HOME=$work/kit archive "$1"
     [ -f "$work/module.bc" ] || die "no module of $1 came by"
     tools=$(kit)/on/$machine/toolchain/bin
-    "$tools/clang" --target="${LINK_TARGET:-$machine-unknown-linux-gnu}" -O3 -fPIC -mllvm -align-all-functions=6 -Wno-override-module -c -o "$work/$1.o" "$work/module.bc"
+    "$tools/clang" --target="${LINK_TARGET:-$machine-unknown-linux-gnu}" -O3 -fPIC -Wno-override-module -c -o "$work/$1.o" "$work/module.bc"
     rm -f "$out/lib$1.a"
     "$tools/llvm-ar" rcs "$out/lib$1.a" "$work/$1.o"
     rm -rf "$work"
@@ -68,7 +60,7 @@ module() { # NAME
 
 for name; do
     case $from in
-    archive) archive "$name" && aligned "$name" ;;
+    archive) archive "$name" && cp "$root/target/staticlib/lib$name.a" "$out/" ;;
     module) module "$name" ;;
     *) die "LINK_FROM is archive or module" ;;
     esac

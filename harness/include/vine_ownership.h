@@ -1,6 +1,6 @@
 /*
  * The calls of document 01, from the library that `rt staticlib ownership` writes.
- * Kept by hand; harness/tests/header.rs compiles it.
+ * Kept by hand; harness/commands/tests/header.rs compiles it.
  */
 #ifndef VINE_OWNERSHIP_H
 #define VINE_OWNERSHIP_H

@@ -48,10 +48,10 @@ pub fn compare(
 }
 
 /// `n` images: the boundaries and the good ones, then an even spread over each enumeration, then planted faults, and
-/// the families for all that is left.
-pub fn images(n: usize) -> impl Iterator<Item = Vec<u8>> {
+/// the families for all that is left. In a box, so that they are compiled here and not again by each that asks.
+pub fn images(n: usize) -> Box<dyn Iterator<Item = Vec<u8>>> {
     let share = |twentieths: usize| n / 20 * twentieths;
-    boundaries()
+    let all = boundaries()
         .chain(GOOD.iter().cloned())
         .chain(spread(exhaustive_records, share(6)))
         .chain(spread(small, share(2)))
@@ -59,8 +59,8 @@ pub fn images(n: usize) -> impl Iterator<Item = Vec<u8>> {
         .chain(spread(|| GOOD.iter().flat_map(|image| field_changes(image)), share(2)))
         .chain(spread(other_lengths, share(1)))
         .chain(faults().take(share(2)))
-        .chain(families())
-        .take(n)
+        .chain(families());
+    Box::new(all.take(n))
 }
 
 /// At most `share` of all, evenly apart; they are counted when the first is asked for. The step is prime, so that it

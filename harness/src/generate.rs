@@ -6,6 +6,7 @@
 
 mod boundaries;
 mod build;
+mod builder;
 mod bytes;
 mod changes;
 mod damage;
@@ -15,8 +16,11 @@ mod faults;
 mod fill;
 mod grow;
 mod heavy;
+mod largest;
 mod layer_faults;
+mod mood;
 mod parts;
+mod picks;
 mod record_faults;
 mod records;
 mod rng;
@@ -29,11 +33,13 @@ pub use damage::boundary_values;
 pub use deep::deepest;
 pub use excess::normalised_counts;
 pub use faults::{Planted, breakable, fault};
-pub use grow::{grow, largest};
+pub use grow::grow;
+pub use largest::largest;
+pub use mood::Size;
 pub use records::exhaustive_records;
 pub use rng::Rng;
 pub use small::{SMALL, Set, exhaustive_small};
-pub use valid::{Size, valid};
+pub use valid::valid;
 
 use boundaries::boundary;
 use damage::{damaged, random};

@@ -12,8 +12,6 @@ pub mod generate;
 pub mod image;
 #[cfg(feature = "oracle")]
 pub mod picture;
-#[cfg(feature = "port")]
-pub mod port;
 pub mod report;
 pub mod samples;
 #[cfg(feature = "oracle")]

@@ -2,9 +2,11 @@
 
 use super::{
     bytes::{section::*, set_count},
-    grow::{grow, largest},
+    grow::grow,
+    largest::largest,
+    mood::Size,
     rng::Rng,
-    valid::{Size, any_valid, valid},
+    valid::{any_valid, valid},
 };
 use crate::image::{HEADER, Image, MAXIMA, NONE, SIZES, kind};
 

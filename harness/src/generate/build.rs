@@ -1,21 +1,12 @@
 //! The building of a valid image: types, locals and layers, then interfaces with their stages, then what stages hold.
 
-use super::{bytes::section::*, rng::Rng, valid::Mood};
-use crate::image::{INVERSE, Image, Interface, Layer, Local, MAXIMA, NONE, SELF_INVERSE, Stage, Type, kind};
-
-/// What is left of each list section.
-pub(super) struct Budget {
-    pub steps: usize,
-    pub ports: usize,
-    pub refs: usize,
-}
-
-pub(super) struct Builder<'a> {
-    pub rng: &'a mut Rng,
-    pub mood: Mood,
-    pub left: Budget,
-    pub image: Image,
-}
+use super::{
+    builder::{Budget, Builder},
+    bytes::section::*,
+    mood::Mood,
+    rng::Rng,
+};
+use crate::image::{Image, Interface, Layer, Local, MAXIMA, NONE, SELF_INVERSE, Stage, Type, kind};
 
 pub(super) fn build(rng: &mut Rng, mood: Mood) -> Image {
     // Room for the Transfers that enter layers, each with a port, which are placed last.
@@ -50,12 +41,6 @@ impl Builder<'_> {
     fn flags(&mut self) -> u8 {
         let self_inverse = if self.rng.chance(self.mood.self_inverse) { SELF_INVERSE } else { 0 };
         self.rng.below(8) as u8 | self_inverse
-    }
-
-    /// A type handle; some types exist.
-    pub(super) fn ty(&mut self) -> u16 {
-        let number = self.rng.below(self.image.types.len()) as u16;
-        number | if self.rng.chance(35) { INVERSE } else { 0 }
     }
 
     fn layers(&mut self) {
@@ -213,19 +198,6 @@ impl Builder<'_> {
         }
         self.rng.shuffle(&mut list);
         list
-    }
-
-    /// Some locals, with repeats; none where there are none or refs run short.
-    pub(super) fn some_locals(&mut self, least: usize, most: usize) -> Vec<u16> {
-        let count = self.rng.between(least, most).min(self.left.refs / 2);
-        let count = if self.mood.locals == 0 { 0 } else { count };
-        (0..count).map(|_| self.local()).collect()
-    }
-
-    /// As the mood is, one of the first few, so that steps meet on the same local.
-    pub(super) fn local(&mut self) -> u16 {
-        let few = if self.rng.chance(self.mood.focus) { self.mood.locals.min(3) } else { self.mood.locals };
-        self.rng.below(few) as u16
     }
 }
 

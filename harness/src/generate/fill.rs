@@ -1,7 +1,7 @@
 //! What the stages of a valid image hold: header, declarations, steps, ports and transfers.
 
 use super::{
-    build::Builder,
+    builder::Builder,
     parts::{HEADER_PORTS, STEP_PORTS},
     rng::some,
 };

@@ -1,12 +1,11 @@
-//! Records added to a valid image up to some count, and the largest image.
+//! Records added to a valid image up to some count.
 
 use super::{
     bytes::section::*,
     rng::{Rng, some},
-    valid::{Size, valid},
 };
 use crate::image::{
-    INVERSE, Image, Interface, Layer, Local, MAXIMA, NONE, Port, Stage, Step, Type, header, kind, port, tag,
+    INVERSE, Image, Interface, Layer, Local, NONE, Port, Stage, Step, Type, header, kind, port, tag,
 };
 
 /// Adds records to a section of a valid image until it has `count`; the image stays valid but for its maxima. Ports and
@@ -122,14 +121,4 @@ fn add_ref(rng: &mut Rng, image: &mut Image) {
         inspect.kind = kind::INSPECT;
         inspect.list.push(rng.below(locals) as u16);
     }
-}
-
-/// A valid image with every count at its maximum, but for the layers where it is to be flat: 63,893 bytes with them.
-pub fn largest(rng: &mut Rng, layered: bool) -> Image {
-    let mut image = valid(rng, Size::Small, layered);
-    let sections = [LAYERS, TYPES, LOCALS, INTERFACES, STAGES, STEPS, PORTS, REFS];
-    for section in sections.into_iter().filter(|&s| layered || s != LAYERS) {
-        grow(rng, &mut image, section, MAXIMA[section]);
-    }
-    image
 }

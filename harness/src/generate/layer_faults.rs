@@ -1,7 +1,7 @@
 //! Layered images that break one layer rule.
 
 use super::{
-    faults::{no_record, some_step},
+    picks::{no_record, some_step},
     rng::{Rng, some},
     valid::find_layered,
 };

@@ -2,8 +2,8 @@
 
 use super::{
     bytes::{LISTS, Layout, append, cut, get16, put16, section::*},
-    faults::{no_record, some_step},
     parts::{HEADER_PORTS, STEP_PORTS, within},
+    picks::{no_record, some_step},
     rng::{Rng, some},
     valid::{any_valid, find},
 };

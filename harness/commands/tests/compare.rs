@@ -16,7 +16,7 @@ const IMAGES: usize = 20_000;
 #[cfg_attr(not(feature = "port"), ignore = "the port's library is not at hand")]
 fn the_port_answers_as_the_harness_does() {
     #[cfg(feature = "port")]
-    match compare(images(IMAGES), harness::port::check) {
+    match compare(images(IMAGES), port::check) {
         Ok(counts) => println!("{counts}"),
         Err(difference) => panic!("{difference}"),
     }

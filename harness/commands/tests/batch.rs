@@ -28,7 +28,7 @@ fn answer(Answer { code, place, kind }: Answer) -> Vec<u8> {
 
 /// What the program writes on this input.
 fn run(input: Vec<u8>) -> Output {
-    let script = Path::new(env!("CARGO_MANIFEST_DIR")).join("run.sh");
+    let script = Path::new(env!("CARGO_MANIFEST_DIR")).join("../run.sh");
     let mut child = Command::new(script)
         .arg("batch")
         .stdin(Stdio::piped())

@@ -1,6 +1,7 @@
 //! docs/PICTURE.md held against the Rust: the pictures in docs/pictures, and those of generated images read back.
 
 #[macro_use]
+#[path = "../../tests/common/mod.rs"]
 mod common;
 
 #[cfg(feature = "oracle")]
@@ -25,7 +26,7 @@ mod reading {
 
     /// A file of docs/.
     pub fn docs(name: &str) -> String {
-        let file = Path::new(env!("CARGO_MANIFEST_DIR")).join("../docs").join(name);
+        let file = Path::new(env!("CARGO_MANIFEST_DIR")).join("../../docs").join(name);
         fs::read_to_string(&file).unwrap_or_else(|why| panic!("{}: {why}", file.display()))
     }
 

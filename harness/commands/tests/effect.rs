@@ -16,7 +16,8 @@ macro_rules! compared {
 }
 
 compared!(join_and_union_are_the_rusts, {
-    use harness::{bridge::EFFECTS, port::effect};
+    use harness::bridge::EFFECTS;
+    use port::effect;
     let mut cells = 0;
     for a in EFFECTS {
         for b in EFFECTS {
@@ -29,14 +30,16 @@ compared!(join_and_union_are_the_rusts, {
 });
 
 compared!(flags_are_the_rusts, {
-    use harness::{bridge::EFFECTS, port::effect};
+    use harness::bridge::EFFECTS;
+    use port::effect;
     for a in EFFECTS {
         assert_eq!(effect::flags(a as u8), [a.read(), a.pass(), a.barrier(), a.write()], "{a:?}");
     }
 });
 
 compared!(numbers_past_the_last_are_never, {
-    use harness::{bridge::Effect, port::effect};
+    use harness::bridge::Effect;
+    use port::effect;
     let never = Effect::Never as u8;
     for n in never..=u8::MAX {
         assert_eq!(effect::join(0, n), never);

@@ -1,6 +1,7 @@
 //! The port's exported functions, each behind a safe one.
+#![cfg(feature = "port")]
 
-use crate::check::Answer;
+use harness::check::Answer;
 
 /// What effect.rs has, on document 01's numbers. Nothing is demanded of them: a number past the last is Never.
 pub mod effect {

@@ -18,7 +18,7 @@ fn compiler() -> Option<Command> {
         _ => {
             let mut cc = Command::new("cc");
             cc.args(["-std=c11", "-Wall", "-Wextra", "-Wpedantic", "-Werror", "-I"])
-                .arg(here.join("include"));
+                .arg(here.join("../include"));
             cc.arg(here.join("tests/header.c"));
             Some(cc)
         }

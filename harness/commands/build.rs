@@ -10,7 +10,7 @@ fn main() {
         return;
     }
     let here = PathBuf::from(env::var_os("CARGO_MANIFEST_DIR").expect("cargo sets it"));
-    let folder = env::var_os("PORT_LIB").map_or(here.join("../target/port"), PathBuf::from);
+    let folder = here.join("..").join(env::var_os("PORT_LIB").unwrap_or("../target/port".into()));
     for name in LIBRARIES {
         let library = folder.join(format!("lib{name}.a"));
         if !library.is_file() {
