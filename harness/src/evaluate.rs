@@ -200,8 +200,8 @@ const HEAD: &str = "use mathlib.Core.List.{List, [], _∷_}
 use mathlib.Core.Path.{_≡_, refl}
 use Prim.Native.Nat.{ℕ}
 use lib.ListN.{drop, take}
-use Rattle.analyzer.proofs.Computed.{analysed}
-use Rattle.normalizer.proofs.Computed.{normalised}
+use Rattle.analyzer.proofs.Computed.{analyseNumbers}
+use Rattle.normalizer.proofs.Computed.{normaliseNumbers}
 ";
 
 /// A file with a claim for each answer to these cases, which have their numbers with them.
@@ -225,7 +225,7 @@ fn claim(case: usize, answer: usize) -> String {
 }
 
 fn proof(name: &str, image: usize, left: &str, right: &str) -> String {
-    format!("\n{name} : {left} ≡ {right}\nunfolding analysed normalised image{image}\n{name} = refl\n")
+    format!("\n{name} : {left} ≡ {right}\nunfolding analyseNumbers normaliseNumbers image{image}\n{name} = refl\n")
 }
 
 fn list<N: Display>(numbers: &[N]) -> String {
@@ -236,8 +236,8 @@ impl Call {
     /// The definition's answer to an image.
     fn on(self, image: usize) -> String {
         match self {
-            Call::Normalise => format!("normalised image{image}"),
-            Call::Analyse(span) => format!("analysed {span} image{image}"),
+            Call::Normalise => format!("normaliseNumbers image{image}"),
+            Call::Analyse(span) => format!("analyseNumbers {span} image{image}"),
         }
     }
 }

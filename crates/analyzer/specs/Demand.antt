@@ -14,6 +14,7 @@ use Rattle.solve.specs.Least.{Least, Four, Steps, Enough, WaitsWithin}
 use Rattle.analyzer.specs.Analyze.{answersFor}
 use Rattle.analyzer.specs.Build.{Network, build, getTransfer, localOf}
 use Rattle.analyzer.specs.Fill.{fillSegments}
+use Rattle.analyzer.specs.Marks.{Apart}
 use Rattle.analyzer.specs.Sizes.{Sizes}
 use Rattle.analyzer.specs.Sweep.{incomingOf}
 use Rattle.analyzer.specs.Wires.{wireOf}
@@ -56,7 +57,8 @@ pub record Demand (v : Vir) (l : ℕ) : Type 0 where
   pub takes : answersFor v l .takes ≡ length (takenBy (inverseOf v l) (networkOf v .relations) (seedsOf v l))
   pub evaluations : answersFor v l .evaluations ≡ fixedPoint (inverseOf v l) (networkOf v .relations) (seedsOf v l) .evaluations
   pub enough : Enough (inverseOf v l) (networkOf v .relations) (seedsOf v l)
-  -- at most 7,937 variables and 7,424 relations; at most four entries wait for each variable, 31,748 in all, also while entries are handed out
+  -- at most 7,937 variables and 7,424 relations, the seeded ones all different; at most four entries wait for each variable, 31,748 in all, also while entries are handed out
   pub sizes : Sizes (networkOf v)
+  pub marks : Apart (networkOf v)
   pub waits : (k : ℕ) → length (after v l k .dirty) ≤ 31748
   pub within : WaitsWithin (inverseOf v l) (networkOf v .relations) (seedsOf v l)
