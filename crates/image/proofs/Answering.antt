@@ -12,7 +12,7 @@ use Rattle.records.specs.declared.layout.Counts.{Counts}
 use Rattle.records.specs.declared.running.Running.{Running}
 use Rattle.records.specs.declared.running.Walked.the-variants.{Clean}
 use Rattle.image.specs.Check.{refused, marked, owned, kindAnswer, recordAnswer, checkOf}
-use Rattle.records.specs.Judge.{walkAll}
+use Rattle.judging.specs.Judge.{walkAll}
 use Rattle.image.specs.Kind.{kindOfVir}
 use Rattle.image.specs.LayerRules.{layerRules}
 use Rattle.records.specs.Layout.{countsOf, within, lengthOf, sections, Sized}

@@ -6,16 +6,16 @@ use native.Mathlib.Numerals.{add-one}
 use native.Mathlib.Omega.{arith}
 use lib.ListN.{length, getD, drop}
 use lib.Seq.{drop-cons}
 use Rattle.records.specs.declared.layout.Counts.{Counts}
 use Rattle.records.specs.declared.layout.Section.{Section}
 use Rattle.records.specs.declared.layout.Section.the-variants.{Layers, Interfaces, Stages, Locals, Types, Steps, Ports}
 use Rattle.records.specs.declared.running.Running.{Running}
 use Rattle.records.specs.declared.running.Judged.{Judged}
 use Rattle.records.specs.declared.running.Judged.the-variants.{Fault, Next}
 use Rattle.records.specs.declared.running.Walked.{Walked}
 use Rattle.records.specs.declared.running.Walked.the-variants.{At, Clean}
-use Rattle.records.specs.Judge.{judge, after, walk, walkSection, onwards, walkAll}
+use Rattle.judging.specs.Judge.{judge, after, walk, walkSection, onwards, walkAll}
 use Rattle.records.specs.Layout.{sections, sizeOf, countOf, startOf, Sized}
 
 -- every section ends within the bytes
 section-room : (s : List ℕ) (c : Counts) (x : Section) → Sized s c → startOf c x + sizeOf x * countOf c x ≤ length s

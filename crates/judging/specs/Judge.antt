@@ -2,24 +2,24 @@
 use mathlib.Core.Bool.{cond}
 use mathlib.Core.List.{List, [], _∷_}
 use Prim.Native.Nat.{ℕ, zero, suc, _+_}
 use Rattle.records.specs.declared.layout.Counts.{Counts}
 use Rattle.records.specs.declared.layout.Section.{Section}
 use Rattle.records.specs.declared.layout.Section.the-variants.{Layers, Interfaces, Stages, Locals, Types, Steps, Ports}
 use Rattle.records.specs.declared.record.LayerRecord.{LayerRecord}
 use Rattle.records.specs.declared.record.InterfaceRecord.{InterfaceRecord}
 use Rattle.records.specs.declared.record.StageRecord.{StageRecord}
 use Rattle.records.specs.declared.record.LocalRecord.{LocalRecord}
 use Rattle.records.specs.declared.record.TypeRecord.{TypeRecord}
 use Rattle.records.specs.declared.record.StepRecord.{StepRecord}
 use Rattle.records.specs.declared.record.PortRecord.{PortRecord}
 use Rattle.records.specs.declared.running.Running.{Running}
 use Rattle.records.specs.declared.running.Judged.{Judged}
 use Rattle.records.specs.declared.running.Judged.the-variants.{Fault, Next}
 use Rattle.records.specs.declared.running.Walked.{Walked}
 use Rattle.records.specs.declared.running.Walked.the-variants.{At, Clean}
-use Rattle.records.specs.Faults.{layerGood, interfaceGood, stageGood, localGood, typeGood, stepGood, portGood}
+use Rattle.rules.specs.Faults.{layerGood, interfaceGood, stageGood, localGood, typeGood, stepGood, portGood}
 use Rattle.records.specs.Layout.{sizeOf, countOf, startOf}
 use Rattle.records.specs.Records.{layerAt, interfaceAt, stageAt, localAt, typeAt, stepAt, portAt}
 
 -- lists are laid end to end: refs by layer, then interface, then stage
 abbrev pub judgeLayer : List ℕ → Counts → Running → LayerRecord → Judged

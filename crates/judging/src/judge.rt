@@ -2,26 +2,26 @@
 ghost use mathlib.Core.Path.{_≡_};
 ghost use Prim.Native.Nat.{_+_, _≤_};
 ghost use lib.ListN.{length};
-ghost use Rattle.records.specs.Judge.{judgeLayer, judgeInterface, judgeStage, judgeLocal, judgeType, judgeStep, judgePort, judge};
+ghost use Rattle.judging.specs.Judge.{judgeLayer, judgeInterface, judgeStage, judgeLocal, judgeType, judgeStep, judgePort, judge};
 ghost use Rattle.records.specs.Layout.{refsAt, sizeOf, Sized};
-use crate::faults::interface_good;
-use crate::faults::layer_good;
-use crate::faults::local_good;
-use crate::faults::port_good;
-use crate::faults::stage_good;
-use crate::faults::step_good;
-use crate::faults::type_good;
-use crate::layout::Counts;
-use crate::layout::Section;
-use crate::record::InterfaceRecord;
-use crate::record::LayerRecord;
-use crate::record::LocalRecord;
-use crate::record::PortRecord;
-use crate::record::StageRecord;
-use crate::record::StepRecord;
-use crate::record::TypeRecord;
-use crate::running::Judged;
-use crate::running::Running;
+use rules::faults::interface_good;
+use rules::faults::layer_good;
+use rules::faults::local_good;
+use rules::faults::port_good;
+use rules::faults::stage_good;
+use rules::faults::step_good;
+use rules::faults::type_good;
+use records::layout::Counts;
+use records::layout::Section;
+use records::record::InterfaceRecord;
+use records::record::LayerRecord;
+use records::record::LocalRecord;
+use records::record::PortRecord;
+use records::record::StageRecord;
+use records::record::StepRecord;
+use records::record::TypeRecord;
+use records::running::Judged;
+use records::running::Running;
 
 fn judge_layer(s: &[u8], c: Counts, at: usize, r: Running, l: LayerRecord) -> Judged
     requires { ⌜ at ≡ refsAt c ⌝ }

@@ -1,13 +1,13 @@
 // The records in file order, up to the first that breaks its rule.
 ghost use mathlib.Core.Path.{_≡_};
-ghost use Rattle.records.specs.Judge.{walkSection, walkAll};
+ghost use Rattle.judging.specs.Judge.{walkSection, walkAll};
 ghost use Rattle.records.specs.Layout.{refsAt, sections, Sized};
 use crate::judge::judge;
-use crate::layout::Counts;
-use crate::layout::Section;
-use crate::running::Judged;
-use crate::running::Running;
-use crate::running::Walked;
+use records::layout::Counts;
+use records::layout::Section;
+use records::running::Judged;
+use records::running::Running;
+use records::running::Walked;
 
 fn walk_section(s: &[u8], c: Counts, at: usize, x: Section, from: Running) -> Walked
     requires { ⌜ at ≡ refsAt c ⌝ }

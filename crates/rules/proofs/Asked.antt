@@ -19,10 +19,10 @@ use Rattle.vir.specs.Header.{headers, headerOf}
 use Rattle.vir.specs.Ids.{none, layerOf}
 use Rattle.vir.specs.Interface.{kinds, kindOf}
 use Rattle.vir.specs.Step.{steps, stepOf}
 use Rattle.records.specs.declared.layout.Counts.{Counts}
 use Rattle.records.specs.declared.record.StepRecord.{StepRecord}
-use Rattle.records.specs.Faults.{orNone, kindLists, headerHas, stepHas, stepNamed, stepFields}
-use Rattle.records.proofs.Fits.{named-invoke, named-transfer, named-diverge, named-other}
+use Rattle.rules.specs.Faults.{orNone, kindLists, headerHas, stepHas, stepNamed, stepFields}
+use Rattle.rules.proofs.Fits.{named-invoke, named-transfer, named-diverge, named-other}
 
 -- what holds at each of the first m numbers
 abbrev pub Each : (ℕ → Type 0) → ℕ → Type 0

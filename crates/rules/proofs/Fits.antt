@@ -8,18 +8,18 @@ use lib.Dec.{eqb, ltb, leb}
 use borrow.Author.Tests.{leb-true, eqb-true, eq-eqb, ne-eqb, le-leb, lt-leb}
 use Rattle.vir.specs.Ids.{none}
 use Rattle.vir.specs.Interface.{kindOf}
 use Rattle.records.specs.declared.layout.Counts.{Counts}
 use Rattle.records.specs.declared.record.Run.{Run}
 use Rattle.records.specs.declared.record.LayerRecord.{LayerRecord}
 use Rattle.records.specs.declared.record.InterfaceRecord.{InterfaceRecord}
 use Rattle.records.specs.declared.record.StageRecord.{StageRecord}
 use Rattle.records.specs.declared.record.StepRecord.{StepRecord}
 use Rattle.records.specs.declared.record.PortRecord.{PortRecord}
 use Rattle.records.specs.declared.running.Running.{Running}
 use Rattle.records.specs.Bytes.{u16At}
 use Rattle.records.specs.Every.{every}
-use Rattle.records.specs.Faults.{orNone, laid, listAt, layerFields, kindLists, closureAt, entriesNamed, interfaceFields, stageNamed, stageLists, stageFields, portsLaid, transferGood, stepNamed, typeNamed, portGood}
+use Rattle.rules.specs.Faults.{orNone, laid, listAt, layerFields, kindLists, closureAt, entriesNamed, interfaceFields, stageNamed, stageLists, stageFields, portsLaid, transferGood, stepNamed, typeNamed, portGood}
 use Rattle.records.proofs.Guards.{left-true, right-true}
 
 pub laid-first : (running total : ℕ) (run : Run) → laid running total run ≡ true → run .first ≡ running
 laid-first running total run h = eqb-true (run .first) running (left-true _ (leb (run .first + run .count) total) h)

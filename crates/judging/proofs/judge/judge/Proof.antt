@@ -1,11 +1,11 @@
 use mathlib.Core.Path.{_∙_, sym, ap}
 use native.Mathlib.Omega.{arith}
 use Rattle.records.specs.declared.layout.Section.{Section}
-use Rattle.records.specs.Judge.{judge, judgeLayer, judgeInterface, judgeStage, judgeLocal, judgeType, judgeStep, judgePort}
+use Rattle.judging.specs.Judge.{judge, judgeLayer, judgeInterface, judgeStage, judgeLocal, judgeType, judgeStep, judgePort}
 use Rattle.records.specs.Layout.{sizeOf}
 use borrow.Author.Needs.{needs}
-use Rattle.records.proofs.judge.judge.Statement.{statement}
-use Rattle.records.proofs.judge.judge.Tie as tie
+use Rattle.judging.proofs.judge.judge.Statement.{statement}
+use Rattle.judging.proofs.judge.judge.Tie as tie
 
 enum-told : tie.Need-enum-told
 enum-told c = search needs

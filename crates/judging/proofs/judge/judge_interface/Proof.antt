@@ -1,10 +1,10 @@
 use native.Mathlib.Omega.{arith}
-use Rattle.records.specs.Faults.{interfaceGood}
+use Rattle.rules.specs.Faults.{interfaceGood}
 use Rattle.records.proofs.Guards.{guard-holds}
-use Rattle.records.proofs.Judging.{judged-no, judged-next, interface-next}
+use Rattle.judging.proofs.Judging.{judged-no, judged-next, interface-next}
 use borrow.Author.Needs.{needs}
-use Rattle.records.proofs.judge.judge_interface.Statement.{statement}
-use Rattle.records.proofs.judge.judge_interface.Tie as tie
+use Rattle.judging.proofs.judge.judge_interface.Statement.{statement}
+use Rattle.judging.proofs.judge.judge_interface.Tie as tie
 
 interface-good-requires : tie.Need-interface-good-requires
 interface-good-requires c κs = search needs

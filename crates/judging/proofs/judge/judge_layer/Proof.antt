@@ -1,10 +1,10 @@
 use native.Mathlib.Omega.{arith}
-use Rattle.records.specs.Faults.{layerGood}
+use Rattle.rules.specs.Faults.{layerGood}
 use Rattle.records.proofs.Guards.{guard-holds}
-use Rattle.records.proofs.Judging.{judged-no, judged-next, layer-next}
+use Rattle.judging.proofs.Judging.{judged-no, judged-next, layer-next}
 use borrow.Author.Needs.{needs}
-use Rattle.records.proofs.judge.judge_layer.Statement.{statement}
-use Rattle.records.proofs.judge.judge_layer.Tie as tie
+use Rattle.judging.proofs.judge.judge_layer.Statement.{statement}
+use Rattle.judging.proofs.judge.judge_layer.Tie as tie
 
 layer-good-requires : tie.Need-layer-good-requires
 layer-good-requires c κs = search needs

@@ -1,8 +1,8 @@
-use Rattle.records.specs.Faults.{localGood}
-use Rattle.records.proofs.Judging.{judged-no, judged-next}
+use Rattle.rules.specs.Faults.{localGood}
+use Rattle.judging.proofs.Judging.{judged-no, judged-next}
 use borrow.Author.Needs.{needs}
-use Rattle.records.proofs.judge.judge_local.Statement.{statement}
-use Rattle.records.proofs.judge.judge_local.Tie as tie
+use Rattle.judging.proofs.judge.judge_local.Statement.{statement}
+use Rattle.judging.proofs.judge.judge_local.Tie as tie
 
 local-good-requires : tie.Need-local-good-requires
 local-good-requires c κs = search needs

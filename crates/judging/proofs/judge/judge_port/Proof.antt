@@ -1,8 +1,8 @@
-use Rattle.records.specs.Faults.{portGood}
-use Rattle.records.proofs.Judging.{judged-no, judged-next}
+use Rattle.rules.specs.Faults.{portGood}
+use Rattle.judging.proofs.Judging.{judged-no, judged-next}
 use borrow.Author.Needs.{needs}
-use Rattle.records.proofs.judge.judge_port.Statement.{statement}
-use Rattle.records.proofs.judge.judge_port.Tie as tie
+use Rattle.judging.proofs.judge.judge_port.Statement.{statement}
+use Rattle.judging.proofs.judge.judge_port.Tie as tie
 
 port-good-requires : tie.Need-port-good-requires
 port-good-requires c κs = search needs

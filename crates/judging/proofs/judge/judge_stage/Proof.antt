@@ -1,10 +1,10 @@
 use native.Mathlib.Omega.{arith}
-use Rattle.records.specs.Faults.{stageGood}
+use Rattle.rules.specs.Faults.{stageGood}
 use Rattle.records.proofs.Guards.{guard-holds}
-use Rattle.records.proofs.Judging.{judged-no, judged-next, Placed, stage-next}
+use Rattle.judging.proofs.Judging.{judged-no, judged-next, Placed, stage-next}
 use borrow.Author.Needs.{needs}
-use Rattle.records.proofs.judge.judge_stage.Statement.{statement}
-use Rattle.records.proofs.judge.judge_stage.Tie as tie
+use Rattle.judging.proofs.judge.judge_stage.Statement.{statement}
+use Rattle.judging.proofs.judge.judge_stage.Tie as tie
 
 stage-good-requires : tie.Need-stage-good-requires
 stage-good-requires c κs = search needs

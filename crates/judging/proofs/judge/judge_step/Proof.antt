@@ -1,12 +1,12 @@
 use mathlib.Core.List.{[]}
 use Prim.Native.Nat.{_+_}
 use native.Mathlib.Omega.{arith}
-use Rattle.records.specs.Faults.{stepGood}
+use Rattle.rules.specs.Faults.{stepGood}
 use Rattle.records.proofs.Guards.{guard-holds}
-use Rattle.records.proofs.Judging.{judged-no, judged-next, step-next}
+use Rattle.judging.proofs.Judging.{judged-no, judged-next, step-next}
 use borrow.Author.Needs.{needs}
-use Rattle.records.proofs.judge.judge_step.Statement.{statement}
-use Rattle.records.proofs.judge.judge_step.Tie as tie
+use Rattle.judging.proofs.judge.judge_step.Statement.{statement}
+use Rattle.judging.proofs.judge.judge_step.Tie as tie
 
 step-good-requires : tie.Need-step-good-requires
 step-good-requires c κs = search needs

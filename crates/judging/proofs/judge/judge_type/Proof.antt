@@ -1,8 +1,8 @@
-use Rattle.records.specs.Faults.{typeGood}
-use Rattle.records.proofs.Judging.{judged-no, judged-next}
+use Rattle.rules.specs.Faults.{typeGood}
+use Rattle.judging.proofs.Judging.{judged-no, judged-next}
 use borrow.Author.Needs.{needs}
-use Rattle.records.proofs.judge.judge_type.Statement.{statement}
-use Rattle.records.proofs.judge.judge_type.Tie as tie
+use Rattle.judging.proofs.judge.judge_type.Statement.{statement}
+use Rattle.judging.proofs.judge.judge_type.Tie as tie
 
 type-good-requires : tie.Need-type-good-requires
 type-good-requires c κs = search needs

@@ -2,13 +2,13 @@ use mathlib.Core.Path.{_≡_, _∙_, sym, ap}
 use Prim.Native.Nat.{_-_}
 use lib.ListN.{getD}
 use borrow.Author.Needs.{needs}
 use Rattle.records.specs.declared.layout.Section.{Section}
 use Rattle.records.specs.declared.layout.Section.the-variants.{Ports}
-use Rattle.records.specs.Judge.{walkSection, walkAll}
+use Rattle.judging.specs.Judge.{walkSection, walkAll}
 use Rattle.records.specs.Layout.{sections}
-use Rattle.records.proofs.Walks.{Passing, passing-start, passing-fault, passing-on, passing-end}
-use Rattle.records.proofs.walk.walk.Statement.{statement}
-use Rattle.records.proofs.walk.walk.Tie as tie
+use Rattle.judging.proofs.Walks.{Passing, passing-start, passing-fault, passing-on, passing-end}
+use Rattle.judging.proofs.walk.walk.Statement.{statement}
+use Rattle.judging.proofs.walk.walk.Tie as tie
 
 abbrev Inv-loop : tie.InvT-loop
 Inv-loop s c at k₀ r₀ k r = Passing s c (walkAll s c sections r₀) k r

@@ -1,11 +1,11 @@
 use mathlib.Core.Path.{_≡_, _∙_, sym}
 use native.Mathlib.Omega.{arith}
 use borrow.Author.Needs.{needs}
-use Rattle.records.specs.Judge.{walkSection}
+use Rattle.judging.specs.Judge.{walkSection}
 use Rattle.records.specs.Layout.{sizeOf}
-use Rattle.records.proofs.Walks.{Walking, walking-start, walking-room, walking-fault, walking-next, walking-end}
-use Rattle.records.proofs.walk.walk_section.Statement.{statement}
-use Rattle.records.proofs.walk.walk_section.Tie as tie
+use Rattle.judging.proofs.Walks.{Walking, walking-start, walking-room, walking-fault, walking-next, walking-end}
+use Rattle.judging.proofs.walk.walk_section.Statement.{statement}
+use Rattle.judging.proofs.walk.walk_section.Tie as tie
 
 abbrev Inv-loop : tie.InvT-loop
 Inv-loop s c at x size left₀ p₀ r₀ left p r = (size ≡ sizeOf x) × Walking s c x (walkSection s c x r₀) left p r

@@ -1,9 +1,9 @@
 use mathlib.Core.Path.{_∙_}
 use native.Mathlib.Omega.{arith}
-use Rattle.records.proofs.Fits.{entries-inspect, entries-closure, entries-stages}
+use Rattle.rules.proofs.Fits.{entries-inspect, entries-closure, entries-stages}
 use borrow.Author.Needs.{needs}
-use Rattle.records.proofs.faults.entries_named.Statement.{statement}
-use Rattle.records.proofs.faults.entries_named.Tie as tie
+use Rattle.rules.proofs.faults.entries_named.Statement.{statement}
+use Rattle.rules.proofs.faults.entries_named.Tie as tie
 
 refs-below-requires : tie.Need-refs-below-requires
 refs-below-requires c κs = search needs

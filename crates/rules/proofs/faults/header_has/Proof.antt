@@ -1,7 +1,7 @@
 use borrow.Author.Tests.{eq-eqb, ne-eqb}
-use Rattle.records.proofs.Asked.{header-asked}
-use Rattle.records.proofs.faults.header_has.Statement.{statement}
-use Rattle.records.proofs.faults.header_has.Tie as tie
+use Rattle.rules.proofs.Asked.{header-asked}
+use Rattle.rules.proofs.faults.header_has.Statement.{statement}
+use Rattle.rules.proofs.faults.header_has.Tie as tie
 
 returns : tie.Need-returns
 returns c =

@@ -1,8 +1,8 @@
 use mathlib.Core.Bool.{and-true, and-false}
 use Rattle.records.proofs.Guards.{guard-fails, guard-holds}
 use borrow.Author.Needs.{needs}
-use Rattle.records.proofs.faults.interface_fields.Statement.{statement}
-use Rattle.records.proofs.faults.interface_fields.Tie as tie
+use Rattle.rules.proofs.faults.interface_fields.Statement.{statement}
+use Rattle.rules.proofs.faults.interface_fields.Tie as tie
 
 kind-lists-requires : tie.Need-kind-lists-requires
 kind-lists-requires c κs = search needs

@@ -1,12 +1,12 @@
 use mathlib.Core.Path.{ap}
 use Prim.Native.Nat.{ℕ, _+_, _*_}
 use native.Mathlib.Omega.{arith}
-use Rattle.records.specs.Faults.{entriesNamed, interfaceFields, interfaceGood}
-use Rattle.records.proofs.Fits.{interface-fits, closure-three}
+use Rattle.rules.specs.Faults.{entriesNamed, interfaceFields, interfaceGood}
+use Rattle.rules.proofs.Fits.{interface-fits, closure-three}
 use Rattle.records.proofs.Guards.{guard-no, guard-go, guard-holds}
 use borrow.Author.Needs.{needs}
-use Rattle.records.proofs.faults.interface_good.Statement.{statement}
-use Rattle.records.proofs.faults.interface_good.Tie as tie
+use Rattle.rules.proofs.faults.interface_good.Statement.{statement}
+use Rattle.rules.proofs.faults.interface_good.Tie as tie
 
 interface-fields-requires : tie.Need-interface-fields-requires
 interface-fields-requires c κs = search needs

@@ -1,7 +1,7 @@
-use Rattle.records.proofs.Asked.{step-invoked}
+use Rattle.rules.proofs.Asked.{step-invoked}
 use borrow.Author.Needs.{needs}
-use Rattle.records.proofs.faults.invoke_good.Statement.{statement}
-use Rattle.records.proofs.faults.invoke_good.Tie as tie
+use Rattle.rules.proofs.faults.invoke_good.Statement.{statement}
+use Rattle.rules.proofs.faults.invoke_good.Tie as tie
 
 cast-result : tie.Need-cast-result
 cast-result c = search needs

@@ -1,8 +1,8 @@
 use borrow.Author.Tests.{eq-eqb, ne-eqb, le-leb, lt-leb}
-use Rattle.records.proofs.Asked.{kind-asked}
+use Rattle.rules.proofs.Asked.{kind-asked}
 use borrow.Author.Needs.{needs}
-use Rattle.records.proofs.faults.kind_lists.Statement.{statement}
-use Rattle.records.proofs.faults.kind_lists.Tie as tie
+use Rattle.rules.proofs.faults.kind_lists.Statement.{statement}
+use Rattle.rules.proofs.faults.kind_lists.Tie as tie
 
 add-result : tie.Need-add-result
 add-result c = search needs

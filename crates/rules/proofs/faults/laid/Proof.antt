@@ -3,9 +3,9 @@ use Prim.Native.Nat.{ℕ, _+_}
 use lib.Dec.{eqb, leb}
 use borrow.Author.Needs.{needs}
 use borrow.Author.Tests.{eq-eqb, ne-eqb}
 use Rattle.records.proofs.Guards.{and-stops, and-goes}
-use Rattle.records.proofs.faults.laid.Statement.{statement}
-use Rattle.records.proofs.faults.laid.Tie as tie
+use Rattle.rules.proofs.faults.laid.Statement.{statement}
+use Rattle.rules.proofs.faults.laid.Tie as tie
 
 cast-if1 : tie.Need-cast-if1
 cast-if1 c = search needs

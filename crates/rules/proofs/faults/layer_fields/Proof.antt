@@ -1,8 +1,8 @@
 use mathlib.Core.Path.{ap₂}
 use mathlib.Core.Bool.{_&&_}
 use borrow.Author.Needs.{needs}
-use Rattle.records.proofs.faults.layer_fields.Statement.{statement}
-use Rattle.records.proofs.faults.layer_fields.Tie as tie
+use Rattle.rules.proofs.faults.layer_fields.Statement.{statement}
+use Rattle.rules.proofs.faults.layer_fields.Tie as tie
 
 or-none-requires : tie.Need-or-none-requires
 or-none-requires c κs = search needs

@@ -1,8 +1,8 @@
 use mathlib.Core.Path.{ap₂}
 use mathlib.Core.Bool.{_&&_}
 use borrow.Author.Needs.{needs}
-use Rattle.records.proofs.faults.local_good.Statement.{statement}
-use Rattle.records.proofs.faults.local_good.Tie as tie
+use Rattle.rules.proofs.faults.local_good.Statement.{statement}
+use Rattle.rules.proofs.faults.local_good.Tie as tie
 
 type-named-requires : tie.Need-type-named-requires
 type-named-requires c κs = search needs

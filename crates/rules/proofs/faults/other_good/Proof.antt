@@ -1,7 +1,7 @@
-use Rattle.records.proofs.Asked.{step-others, step-none}
+use Rattle.rules.proofs.Asked.{step-others, step-none}
 use borrow.Author.Needs.{needs}
-use Rattle.records.proofs.faults.other_good.Statement.{statement}
-use Rattle.records.proofs.faults.other_good.Tie as tie
+use Rattle.rules.proofs.faults.other_good.Statement.{statement}
+use Rattle.rules.proofs.faults.other_good.Tie as tie
 
 returns : tie.Need-returns
 returns c counts = step-none counts (c .before .before .args .t) (c .if1 .taken)

@@ -1,7 +1,7 @@
 use borrow.Author.Tests.{eq-eqb, ne-eqb}
-use Rattle.records.proofs.Asked.{other-asked}
-use Rattle.records.proofs.faults.other_has.Statement.{statement}
-use Rattle.records.proofs.faults.other_has.Tie as tie
+use Rattle.rules.proofs.Asked.{other-asked}
+use Rattle.rules.proofs.faults.other_has.Statement.{statement}
+use Rattle.rules.proofs.faults.other_has.Tie as tie
 
 returns : tie.Need-returns
 returns c a b =

@@ -1,9 +1,9 @@
 use mathlib.Core.Path.{_∙_, sym}
 use borrow.Author.Needs.{needs}
 use borrow.Author.Tests.{not-true, not-false}
-use Rattle.records.proofs.Fits.{port-untyped, port-wire, port-other}
-use Rattle.records.proofs.faults.port_good.Statement.{statement}
-use Rattle.records.proofs.faults.port_good.Tie as tie
+use Rattle.rules.proofs.Fits.{port-untyped, port-wire, port-other}
+use Rattle.rules.proofs.faults.port_good.Statement.{statement}
+use Rattle.rules.proofs.faults.port_good.Tie as tie
 
 type-named-requires : tie.Need-type-named-requires
 type-named-requires c κs = search needs

@@ -6,11 +6,11 @@ use native.Mathlib.Omega.{arith}
 use lib.Dec.{ltb}
 use borrow.Author.Needs.{needs}
 use borrow.Author.Tests.{lt-ltb, le-ltb}
 use Rattle.records.specs.Bytes.{u16At}
 use Rattle.records.specs.Every.{every}
 use Rattle.records.proofs.Every.{every-zero, every-on, every-stop, every-end}
-use Rattle.records.proofs.faults.refs_below.Statement.{statement}
-use Rattle.records.proofs.faults.refs_below.Tie as tie
+use Rattle.rules.proofs.faults.refs_below.Statement.{statement}
+use Rattle.rules.proofs.faults.refs_below.Tie as tie
 
 -- the test of an entry
 abbrev named : List ℕ → ℕ → ℕ → ℕ → Bool

@@ -1,7 +1,7 @@
 use Rattle.records.proofs.Guards.{guard-fails, guard-holds}
 use borrow.Author.Needs.{needs}
-use Rattle.records.proofs.faults.stage_fields.Statement.{statement}
-use Rattle.records.proofs.faults.stage_fields.Tie as tie
+use Rattle.rules.proofs.faults.stage_fields.Statement.{statement}
+use Rattle.rules.proofs.faults.stage_fields.Tie as tie
 
 stage-named-requires : tie.Need-stage-named-requires
 stage-named-requires c κs = search needs

@@ -2,14 +2,14 @@ use mathlib.Core.Path.{_∙_, ap}
 use Prim.Native.Nat.{ℕ, _+_, _*_}
 use native.Mathlib.Omega.{arith}
 use lib.Dec.{ltb}
 use Rattle.records.specs.Bytes.{u16At}
 use Rattle.records.specs.Every.{every}
-use Rattle.records.specs.Faults.{refsBelow, stageFields, stageGood}
-use Rattle.records.proofs.Fits.{stage-fits}
+use Rattle.rules.specs.Faults.{refsBelow, stageFields, stageGood}
+use Rattle.rules.proofs.Fits.{stage-fits}
 use Rattle.records.proofs.Guards.{guard-no, guard-go, guard-holds}
 use borrow.Author.Needs.{needs}
-use Rattle.records.proofs.faults.stage_good.Statement.{statement}
-use Rattle.records.proofs.faults.stage_good.Tie as tie
+use Rattle.rules.proofs.faults.stage_good.Statement.{statement}
+use Rattle.rules.proofs.faults.stage_good.Tie as tie
 
 stage-fields-requires : tie.Need-stage-fields-requires
 stage-fields-requires c κs = search needs

@@ -1,8 +1,8 @@
 use mathlib.Core.Bool.{and-false}
 use Rattle.records.proofs.Guards.{guard-fails, guard-holds}
 use borrow.Author.Needs.{needs}
-use Rattle.records.proofs.faults.stage_lists.Statement.{statement}
-use Rattle.records.proofs.faults.stage_lists.Tie as tie
+use Rattle.rules.proofs.faults.stage_lists.Statement.{statement}
+use Rattle.rules.proofs.faults.stage_lists.Tie as tie
 
 ports-laid-requires : tie.Need-ports-laid-requires
 ports-laid-requires c κs = search needs

@@ -1,9 +1,9 @@
 use mathlib.Core.Path.{ap₂}
 use mathlib.Core.Bool.{_&&_, and-false}
 use Rattle.records.proofs.Guards.{guard-fails, guard-holds, and-goes}
 use borrow.Author.Needs.{needs}
-use Rattle.records.proofs.faults.stage_named.Statement.{statement}
-use Rattle.records.proofs.faults.stage_named.Tie as tie
+use Rattle.rules.proofs.faults.stage_named.Statement.{statement}
+use Rattle.rules.proofs.faults.stage_named.Tie as tie
 
 names-requires : tie.Need-names-requires
 names-requires c κs = search needs

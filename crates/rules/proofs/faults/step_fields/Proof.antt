@@ -1,6 +1,6 @@
 use borrow.Author.Needs.{needs}
-use Rattle.records.proofs.faults.step_fields.Statement.{statement}
-use Rattle.records.proofs.faults.step_fields.Tie as tie
+use Rattle.rules.proofs.faults.step_fields.Statement.{statement}
+use Rattle.rules.proofs.faults.step_fields.Tie as tie
 
 invoke-good-requires : tie.Need-invoke-good-requires
 invoke-good-requires c κs = search needs

@@ -1,8 +1,8 @@
 use mathlib.Core.Bool.{and-true, and-false}
 use Rattle.records.proofs.Guards.{guard-fails, guard-holds}
 use borrow.Author.Needs.{needs}
-use Rattle.records.proofs.faults.step_good.Statement.{statement}
-use Rattle.records.proofs.faults.step_good.Tie as tie
+use Rattle.rules.proofs.faults.step_good.Statement.{statement}
+use Rattle.rules.proofs.faults.step_good.Tie as tie
 
 laid-requires : tie.Need-laid-requires
 laid-requires c κs = search needs

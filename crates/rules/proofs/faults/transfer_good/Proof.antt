@@ -1,6 +1,6 @@
-use Rattle.records.proofs.Fits.{transfer-none, transfer-some}
-use Rattle.records.proofs.faults.transfer_good.Statement.{statement}
-use Rattle.records.proofs.faults.transfer_good.Tie as tie
+use Rattle.rules.proofs.Fits.{transfer-none, transfer-some}
+use Rattle.rules.proofs.faults.transfer_good.Statement.{statement}
+use Rattle.rules.proofs.faults.transfer_good.Tie as tie
 
 returns : tie.Need-returns
 returns c =

@@ -1,6 +1,6 @@
-use Rattle.records.proofs.Asked.{step-transfers}
-use Rattle.records.proofs.faults.transfer_step_good.Statement.{statement}
-use Rattle.records.proofs.faults.transfer_step_good.Tie as tie
+use Rattle.rules.proofs.Asked.{step-transfers}
+use Rattle.rules.proofs.faults.transfer_step_good.Statement.{statement}
+use Rattle.rules.proofs.faults.transfer_step_good.Tie as tie
 
 returns : tie.Need-returns
 returns c =

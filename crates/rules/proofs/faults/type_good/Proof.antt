@@ -1,8 +1,8 @@
 use mathlib.Core.Path.{ap₂}
 use mathlib.Core.Bool.{_&&_}
 use borrow.Author.Needs.{needs}
-use Rattle.records.proofs.faults.type_good.Statement.{statement}
-use Rattle.records.proofs.faults.type_good.Tie as tie
+use Rattle.rules.proofs.faults.type_good.Statement.{statement}
+use Rattle.rules.proofs.faults.type_good.Tie as tie
 
 flags-good-requires : tie.Need-flags-good-requires
 flags-good-requires c κs = search needs
