@@ -6,12 +6,12 @@ use Prim.Native.Nat.{_<_, _≤_}
 use native.Mathlib.Omega.{arith}
 use lib.Dec.{leb, leb→le, ltb, ltb→lt, not-T}
 use lib.ListN.{length}
 use Rattle.effect.specs.declared.Effect.{Effect}
 use Rattle.effect.specs.declared.Effect.the-variants.{Never}
 use Rattle.effect.specs.Effect.{join, union, UNION}
-use Rattle.effect.specs.Order.{_⊑_, Rising, rises}
+use Rattle.order.specs.Order.{_⊑_, Rising, rises}
 use Rattle.effect.proofs.Finite.{at, at₂, same, same→eq, implies, use-implies}
 use Rattle.effect.proofs.Laws.{union-assoc, union-comm, union-idem, never-union, join-union, union-join}
 
 pub ⊑-refl : (a : Effect) → a ⊑ a
 ⊑-refl = union-idem
