@@ -17,13 +17,13 @@ use crate::layer_rules::interfaces_lie;
 use crate::layer_rules::parents_below;
 use crate::layered::own_layers;
 use crate::tally::counted;
+use judging::walk::walk;
 use records::bytes::u32_at;
 use records::layout::Counts;
 use records::layout::HEAD;
 use records::layout::VERSION;
 use records::running::Running;
 use records::running::Walked;
-use judging::walk::walk;
 
 fn refused(code: u32, place: u32) -> Answer
     ensures { λ r. ⌜ r ≡ refused code place ⌝ }

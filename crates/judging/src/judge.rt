@@ -4,13 +4,6 @@ ghost use Prim.Native.Nat.{_+_, _≤_};
 ghost use lib.ListN.{length};
 ghost use Rattle.judging.specs.Judge.{judgeLayer, judgeInterface, judgeStage, judgeLocal, judgeType, judgeStep, judgePort, judge};
 ghost use Rattle.records.specs.Layout.{refsAt, sizeOf, Sized};
-use rules::faults::interface_good;
-use rules::faults::layer_good;
-use rules::faults::local_good;
-use rules::faults::port_good;
-use rules::faults::stage_good;
-use rules::faults::step_good;
-use rules::faults::type_good;
 use records::layout::Counts;
 use records::layout::Section;
 use records::record::InterfaceRecord;
@@ -22,6 +15,13 @@ use records::record::StepRecord;
 use records::record::TypeRecord;
 use records::running::Judged;
 use records::running::Running;
+use rules::faults::interface_good;
+use rules::faults::layer_good;
+use rules::faults::local_good;
+use rules::faults::port_good;
+use rules::faults::stage_good;
+use rules::faults::step_good;
+use rules::faults::type_good;
 
 fn judge_layer(s: &[u8], c: Counts, at: usize, r: Running, l: LayerRecord) -> Judged
     requires { ⌜ at ≡ refsAt c ⌝ }

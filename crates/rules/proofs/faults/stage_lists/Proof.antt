@@ -1,5 +1,6 @@
-use mathlib.Core.Bool.{and-false}
-use Rattle.records.proofs.Guards.{guard-fails, guard-holds}
+use mathlib.Core.Path.{ap₂}
+use mathlib.Core.Bool.{_&&_, and-false}
+use Rattle.records.proofs.Guards.{guard-fails, guard-holds, and-goes}
 use borrow.Author.Needs.{needs}
 use Rattle.rules.proofs.faults.stage_lists.Statement.{statement}
 use Rattle.rules.proofs.faults.stage_lists.Tie as tie
@@ -21,11 +22,11 @@ laid-requires-2 c κs = search needs
 
 returns-3 : tie.Need-returns-3
 returns-3 c =
-    simp (
-      c .laid2 .ensures,
-      guard-holds _ _ (c .before .before .before .before .ports-laid .ensures) (c .before .before .before .if1 .left),
-      guard-holds _ _ (c .before .before .laid .ensures) (c .before .if2 .left),
-    )
+    and-goes _ _
+    (ap₂ _&&_
+    (guard-holds _ _ (c .before .before .before .before .ports-laid .ensures) (c .before .before .before .if1 .left))
+    (guard-holds _ _ (c .before .before .laid .ensures) (c .before .if2 .left)))
+    (c .laid2 .ensures)
 
 pub stage-lists-spec : {M : Type 1} → statement M
 stage-lists-spec = tie.close (tie.spec ports-laid-requires returns laid-requires returns-2 laid-requires-2 returns-3)
