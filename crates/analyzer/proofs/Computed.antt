@@ -8,8 +8,8 @@ use Rattle.vir.specs.Port.{portOf}
 use Rattle.vir.specs.Step.{stepOf}
 use Rattle.records.specs.Bytes.{u16At, u32At}
 use Rattle.records.specs.Every.{every}
-use Rattle.records.specs.Faults.{layerGood, interfaceGood, stageGood}
-use Rattle.records.specs.Judge.{walk, walkAll}
+use Rattle.rules.specs.Faults.{layerGood, interfaceGood, stageGood}
+use Rattle.judging.specs.Judge.{walk, walkAll}
 use Rattle.image.specs.Call.{numbers}
 use Rattle.image.specs.Check.{checkOf}
 use Rattle.image.specs.Kind.{all, concat, occurrences, present, kindOfVir}

@@ -1,5 +1,4 @@
 pub mod Flags
 pub mod Finite
 pub mod Laws
-pub mod Order
 pub mod Starred

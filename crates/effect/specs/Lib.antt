@@ -1,4 +1,3 @@
 pub mod Effect
 pub mod Example
-pub mod Order
 pub mod Starred

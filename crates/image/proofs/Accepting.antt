@@ -33,11 +33,11 @@ use Rattle.records.specs.declared.running.Walked.{Walked}
 use Rattle.records.specs.declared.running.Walked.the-variants.{At, Clean}
 use Rattle.image.specs.Accepted.{entryAt, Named, NamedOrNone, LayerFacts, InterfaceFacts, StageFacts, LocalFacts, TypeFacts, StepFacts, PortFacts, Accepted}
 use Rattle.records.specs.Bytes.{u16At}
-use Rattle.records.specs.Faults.{orNone, typeNamed, flagsGood, laid, listAt, refsBelow, layerFields, layerGood, kindLists, closureAt, entriesNamed, interfaceFields, interfaceGood, headerHas, transferGood, stageNamed, stageLists, stageFields, stageGood, localGood, typeGood, stepHas, stepNamed, stepGood, portGood}
-use Rattle.records.specs.Judge.{judge, after, walk, walkSection, onwards, walkAll}
+use Rattle.rules.specs.Faults.{orNone, typeNamed, flagsGood, laid, listAt, refsBelow, layerFields, layerGood, kindLists, closureAt, entriesNamed, interfaceFields, interfaceGood, headerHas, transferGood, stageNamed, stageLists, stageFields, stageGood, localGood, typeGood, stepHas, stepNamed, stepGood, portGood}
+use Rattle.judging.specs.Judge.{judge, after, walk, walkSection, onwards, walkAll}
 use Rattle.records.specs.Layout.{sections, sizeOf, countOf, startOf, Sized}
 use Rattle.records.proofs.Every.{every-at}
-use Rattle.records.proofs.Fits.{laid-fits, layer-fits, interface-fits, closure-three, stage-fits, stage-steps-fit, stage-ports-fit, entries-inspect, entries-closure, entries-stages, named-invoke, named-transfer, named-diverge}
+use Rattle.rules.proofs.Fits.{laid-fits, layer-fits, interface-fits, closure-three, stage-fits, stage-steps-fit, stage-ports-fit, entries-inspect, entries-closure, entries-stages, named-invoke, named-transfer, named-diverge}
 use Rattle.records.proofs.Guards.{left-true, right-true}
 
 -- what the tests show of an index ..

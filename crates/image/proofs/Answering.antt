@@ -6,13 +6,13 @@ use Prim.Native.Nat.{ℕ, _≤_, _<_}
 use lib.Dec.{eqb, ltb, leb}
 use native.Mathlib.Omega.{arith}
 use lib.ListN.{length, replicate, length-replicate}
-use borrow.Author.Tests.{lt-ltb, le-ltb, eq-eqb, ne-eqb, leb-true}
+use borrow.Author.Tests.{lt-ltb, le-ltb, eq-eqb, ne-eqb, leb-true, eqb-false, not-true}
 use Rattle.image.specs.declared.answer.Answer.{Answer}
 use Rattle.records.specs.declared.layout.Counts.{Counts}
 use Rattle.records.specs.declared.running.Running.{Running}
 use Rattle.records.specs.declared.running.Walked.the-variants.{Clean}
 use Rattle.image.specs.Check.{refused, marked, owned, kindAnswer, recordAnswer, checkOf}
-use Rattle.records.specs.Judge.{walkAll}
+use Rattle.judging.specs.Judge.{walkAll}
 use Rattle.image.specs.Kind.{kindOfVir}
 use Rattle.image.specs.LayerRules.{layerRules}
 use Rattle.records.specs.Layout.{countsOf, within, lengthOf, sections, Sized}
@@ -150,6 +150,14 @@ within-sized s c h l =
     }
 
 -- the largest image
+-- the first test of the counts
+pub some-interface : (c : Counts) → within c ≡ true → 0 < c .interfaces
+some-interface c h =
+    omega (
+      arith,
+      eqb-false (c .interfaces) 0 (not-true _ (left-true _ _ (left-true _ _ (left-true _ _ (left-true _ _ (left-true _ _ (left-true _ _ (left-true _ _ (left-true _ _ h))))))))),
+    )
+
 pub within-most : (c : Counts) → within c ≡ true → lengthOf c ≤ 63893
 within-most c h =
     let z : Sized (replicate (lengthOf c) 0) c = within-sized (replicate (lengthOf c) 0) c h (length-replicate (lengthOf c) 0) in

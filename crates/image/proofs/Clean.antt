@@ -13,7 +13,7 @@ use Rattle.records.specs.declared.running.Judged.{Judged}
 use Rattle.records.specs.declared.running.Judged.the-variants.{Fault, Next}
 use Rattle.records.specs.declared.running.Walked.{Walked}
 use Rattle.records.specs.declared.running.Walked.the-variants.{At, Clean}
-use Rattle.records.specs.Judge.{judge, after, walk, walkSection, onwards, walkAll}
+use Rattle.judging.specs.Judge.{judge, after, walk, walkSection, onwards, walkAll}
 use Rattle.records.specs.Layout.{sections, sizeOf, countOf, startOf}
 use Rattle.image.specs.View.{collect}
 use Rattle.image.proofs.Lists.{Lists, lists-none}

@@ -12,8 +12,8 @@ use Rattle.records.specs.Bytes.{u16At, u32At}
 use Rattle.records.specs.Every.{every}
 use Rattle.image.specs.Check.{checkOf}
 use Rattle.image.specs.Encode.{layersBytes, interfacesBytes, stagesBytes, actionsBytes, encode}
-use Rattle.records.specs.Faults.{layerGood, interfaceGood, stageGood}
-use Rattle.records.specs.Judge.{walk, walkAll}
+use Rattle.rules.specs.Faults.{layerGood, interfaceGood, stageGood}
+use Rattle.judging.specs.Judge.{walk, walkAll}
 use Rattle.image.specs.Kind.{all, concat, occurrences, present, kindOfVir}
 use Rattle.image.specs.LayerRules.{liesWithin, layerRules}
 use Rattle.image.specs.Samples.{example, loop}

@@ -10,7 +10,7 @@ use Rattle.records.specs.declared.running.Running.{Running}
 use Rattle.records.specs.declared.running.Judged.the-variants.{Next}
 use Rattle.records.specs.declared.running.Walked.the-variants.{Clean}
 use Rattle.records.specs.Bytes.{u16At}
-use Rattle.records.specs.Judge.{judge, walkSection}
+use Rattle.judging.specs.Judge.{judge, walkSection}
 use Rattle.image.specs.Kind.{concat}
 use Rattle.records.specs.Layout.{countOf, layersAt, interfacesAt, stagesAt, localsAt, typesAt, stepsAt, portsAt, refsAt}
 use Rattle.records.specs.Records.{layerAt, interfaceAt, stageAt, localAt, typeAt, stepAt, portAt}

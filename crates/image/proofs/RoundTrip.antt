@@ -14,7 +14,7 @@ use Rattle.records.specs.declared.running.Walked.the-variants.{Clean}
 use Rattle.records.specs.Bytes.{Bytes, u8At, u16At}
 use Rattle.image.specs.Check.{marked, owned}
 use Rattle.image.specs.Encode.{u16Bytes, portBytes, interfacesBytes, stagesBytes, actionsBytes, allActions, stagePorts, allPorts, layerRefs, interfaceRefs, allRefs, countBytes, encode}
-use Rattle.records.specs.Judge.{walkAll}
+use Rattle.judging.specs.Judge.{walkAll}
 use Rattle.image.specs.Kind.{concat}
 use Rattle.records.specs.Layout.{countsOf, sections, lengthOf, interfacesAt, stagesAt, localsAt, stepsAt, portsAt, refsAt, Sized}
 use Rattle.image.specs.View.{collect, viewOf, view}

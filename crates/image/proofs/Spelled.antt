@@ -12,7 +12,7 @@ use Rattle.records.specs.declared.running.Judged.the-variants.{Next}
 use Rattle.records.specs.declared.running.Walked.the-variants.{Clean}
 use Rattle.records.specs.Bytes.{Bytes, u8At, u16At}
 use Rattle.image.specs.Encode.{u16Bytes, layersBytes, interfacesBytes, stagesBytes, actionsBytes, localBytes, flexBytes, portBytes}
-use Rattle.records.specs.Judge.{judge, walkSection}
+use Rattle.judging.specs.Judge.{judge, walkSection}
 use Rattle.image.specs.Kind.{concat}
 use Rattle.records.specs.Layout.{countOf, layersAt, interfacesAt, stagesAt, localsAt, typesAt, stepsAt, portsAt, refsAt, lengthOf}
 use Rattle.records.specs.Records.{stageAt}

@@ -27,7 +27,7 @@ use Rattle.vir.specs.Step.{stepOf, stepTag, steps, onwardOf}
 use Rattle.records.specs.declared.layout.Counts.{Counts}
 use Rattle.records.specs.declared.record.Run.{Run}
 use Rattle.image.specs.Encode.{stepA, stepB, onwardB, portA, portB}
-use Rattle.records.specs.Faults.{orNone, kindLists, headerHas, stepHas, stepNamed}
+use Rattle.rules.specs.Faults.{orNone, kindLists, headerHas, stepHas, stepNamed}
 use Rattle.image.specs.View.{kindIn, headerIn, stepIn, portIn}
 use Rattle.records.proofs.Guards.{left-true}
 

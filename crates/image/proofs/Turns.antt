@@ -19,12 +19,12 @@ use Rattle.records.specs.declared.record.PortRecord.{PortRecord}
 use Rattle.records.specs.declared.running.Running.{Running}
 use Rattle.records.specs.declared.running.Judged.the-variants.{Next}
 use Rattle.image.specs.Encode.{stepA, stepB, portA, portB}
-use Rattle.records.specs.Faults.{orNone, laid, portsLaid, typeNamed, refsBelow, layerFields, layerGood, kindLists, entriesNamed, interfaceFields, interfaceGood, headerHas, transferGood, stageNamed, stageLists, stageFields, stageGood, localGood, typeGood, stepHas, stepNamed, stepGood, portGood}
-use Rattle.records.specs.Judge.{judge}
+use Rattle.rules.specs.Faults.{orNone, laid, portsLaid, typeNamed, refsBelow, layerFields, layerGood, kindLists, entriesNamed, interfaceFields, interfaceGood, headerHas, transferGood, stageNamed, stageLists, stageFields, stageGood, localGood, typeGood, stepHas, stepNamed, stepGood, portGood}
+use Rattle.judging.specs.Judge.{judge}
 use Rattle.records.specs.Records.{layerAt, interfaceAt, stageAt, localAt, typeAt, stepAt, portAt}
 use Rattle.image.specs.View.{kindIn, headerIn, stepIn, portIn}
 use Rattle.image.proofs.Clean.{passed, moved}
-use Rattle.records.proofs.Fits.{laid-first}
+use Rattle.rules.proofs.Fits.{laid-first}
 use Rattle.records.proofs.Guards.{left-true, right-true}
 use Rattle.image.proofs.Tags.{kind-back, header-back, step-back, step-fields, port-fields}
 

@@ -13,7 +13,7 @@ use Rattle.records.specs.declared.record.TypeRecord.{TypeRecord}
 use Rattle.records.specs.declared.record.StepRecord.{StepRecord}
 use Rattle.records.specs.declared.record.PortRecord.{PortRecord}
 use Rattle.records.specs.Bytes.{u16At}
-use Rattle.records.specs.Faults.{listAt}
+use Rattle.rules.specs.Faults.{listAt}
 use Rattle.records.specs.Layout.{layersAt, interfacesAt, stagesAt, localsAt, typesAt, stepsAt, portsAt, Sized, layerSize, interfaceSize, stageSize, localSize, typeSize, stepSize, portSize}
 use Rattle.records.specs.Records.{layerAt, interfaceAt, stageAt, localAt, typeAt, stepAt, portAt}
 

@@ -7,7 +7,7 @@ ghost use Rattle.image.specs.Check.{refused, marked, owned, kindAnswer, 
 ghost use Rattle.image.specs.Accepted.{Accepted};
 ghost use Rattle.image.specs.LayerRules.{layerRules};
 ghost use Rattle.image.specs.View.{viewOf};
-ghost use Rattle.records.specs.Judge.{walkAll};
+ghost use Rattle.judging.specs.Judge.{walkAll};
 ghost use Rattle.records.specs.Layout.{sections, Sized};
 use crate::answer::Answer;
 use crate::entering::entered_once;
@@ -17,13 +17,13 @@ use crate::layer_rules::interfaces_lie;
 use crate::layer_rules::parents_below;
 use crate::layered::own_layers;
 use crate::tally::counted;
+use judging::walk::walk;
 use records::bytes::u32_at;
 use records::layout::Counts;
 use records::layout::HEAD;
 use records::layout::VERSION;
 use records::running::Running;
 use records::running::Walked;
-use records::walk::walk;
 
 fn refused(code: u32, place: u32) -> Answer
     ensures { λ r. ⌜ r ≡ refused code place ⌝ }

@@ -9,7 +9,7 @@ use lib.ListN.{length, getD, replicate, length-replicate, length-map, List·getD
 use borrow.Author.Tests.{eqb-true, lt-ltb}
 use Rattle.vir.specs.Ids.{none}
 use Rattle.records.specs.declared.layout.Counts.{Counts}
-use Rattle.records.specs.Faults.{orNone}
+use Rattle.rules.specs.Faults.{orNone}
 use Rattle.records.specs.Layout.{within}
 use Rattle.records.proofs.Guards.{left-true, right-true}
 use Rattle.image.specs.Encode.{allActions, allPorts, stagePorts, countsOfVir}

@@ -8,7 +8,7 @@ use lib.Dec.{eqb, ltb}
 use lib.ListN.{length, List·getD-eq-default}
 use borrow.Author.Tests.{eqb-true, ne-eqb, ltb-true, ltb-false}
 use Rattle.vir.specs.Ids.{none}
-use Rattle.records.specs.Faults.{orNone}
+use Rattle.rules.specs.Faults.{orNone}
 use Rattle.records.proofs.Every.{every-at}
 use Rattle.records.proofs.Guards.{left-true, right-true}
 use Rattle.image.specs.Encode.{countsOfVir}

@@ -11,7 +11,7 @@ use Rattle.vir.specs.Arity.{allows}
 use Rattle.vir.specs.Header.{headerPorts}
 use Rattle.vir.specs.Ids.{none}
 use Rattle.records.specs.declared.layout.Counts.{Counts}
-use Rattle.records.specs.Faults.{orNone}
+use Rattle.rules.specs.Faults.{orNone}
 use Rattle.image.specs.Encode.{countsOfVir}
 use Rattle.image.specs.Kind.{all}
 use Rattle.image.specs.Vir.{Action, Interface, Local, Stage, Vir, stageOf}

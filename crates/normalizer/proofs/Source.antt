@@ -9,7 +9,7 @@ use lib.ListN.{length}
 use borrow.Author.Tests.{eqb-true, eqb-false, ltb-true, ltb-false, le-leb}
 use Rattle.vir.specs.Ids.{none}
 use Rattle.records.specs.declared.layout.Counts.{Counts}
-use Rattle.records.specs.Faults.{orNone}
+use Rattle.rules.specs.Faults.{orNone}
 use Rattle.records.proofs.Every.{every-at}
 use Rattle.records.proofs.Guards.{left-true, right-true}
 use Rattle.image.specs.Encode.{allActions, stagePorts, countsOfVir}

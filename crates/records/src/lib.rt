@@ -1,8 +1,5 @@
-// The records of an image: its bytes as values, and whether each keeps its rule.
+// The records of an image: its bytes as values, and where each lies.
 pub mod bytes;
-pub mod faults;
-pub mod judge;
 pub mod layout;
 pub mod record;
 pub mod running;
-pub mod walk;

@@ -11,9 +11,9 @@ use Rattle.records.specs.declared.layout.Counts.{Counts}
 use Rattle.records.specs.declared.running.Running.{Running}
 use Rattle.records.specs.declared.running.Walked.the-variants.{Clean}
 use Rattle.records.specs.Bytes.{u16At}
-use Rattle.records.specs.Judge.{walkAll}
+use Rattle.judging.specs.Judge.{walkAll}
 use Rattle.records.specs.Layout.{countsOf, within, lengthOf, sections, layersAt, interfacesAt, stagesAt, localsAt, typesAt, stepsAt, portsAt, Sized}
-use Rattle.records.proofs.Walks.{passing-start, passing-on, passing-end}
+use Rattle.judging.proofs.Walks.{passing-start, passing-on, passing-end}
 use Rattle.image.specs.Check.{marked, owned, kindAnswer, recordAnswer, checkOf}
 use Rattle.image.specs.Encode.{allActions, stagePorts, allPorts, layerRefs, interfaceRefs, countsOfVir, encode}
 use Rattle.image.specs.Kind.{concat, kindOfVir}

@@ -16,8 +16,8 @@ use Rattle.records.specs.declared.record.InterfaceRecord.{InterfaceRecord}
 use Rattle.records.specs.declared.record.Run.{Run}
 use Rattle.records.specs.Bytes.{u16At}
 use Rattle.records.specs.Every.{every}
-use Rattle.records.specs.Faults.{orNone, listAt, refsBelow, closureAt, entriesNamed}
-use Rattle.records.proofs.Fits.{entries-inspect, entries-closure, entries-stages}
+use Rattle.rules.specs.Faults.{orNone, listAt, refsBelow, closureAt, entriesNamed}
+use Rattle.rules.proofs.Fits.{entries-inspect, entries-closure, entries-stages}
 use Rattle.image.specs.Kind.{all}
 use Rattle.image.specs.View.{collect, refsFrom}
 use Rattle.image.proofs.Gathered.{nthRef}

@@ -14,7 +14,7 @@ use Rattle.records.specs.declared.running.Judged.the-variants.{Fault, Next}
 use Rattle.records.specs.declared.running.Walked.{Walked}
 use Rattle.records.specs.declared.running.Walked.the-variants.{Clean}
 use Rattle.records.specs.Bytes.{u8At}
-use Rattle.records.specs.Judge.{judgeLayer, judgeInterface, judgeStage, judgeLocal, judgeType, judgeStep, judgePort, judge, after, walk}
+use Rattle.judging.specs.Judge.{judgeLayer, judgeInterface, judgeStage, judgeLocal, judgeType, judgeStep, judgePort, judge, after, walk}
 use Rattle.records.specs.Layout.{sizeOf}
 use Rattle.records.proofs.Guards.{left-true, right-true}
 use Rattle.image.specs.Encode.{layersBytes, interfacesBytes, stagesBytes, localBytes, flexBytes, actionsBytes, portBytes}

@@ -25,7 +25,7 @@ use Rattle.vir.specs.Step.{stepPorts, stepTag}
 use Rattle.records.specs.declared.layout.Counts.{Counts}
 use Rattle.records.specs.declared.record.Run.{Run}
 use Rattle.records.specs.declared.running.Running.{Running}
-use Rattle.records.specs.Faults.{orNone, typeNamed, flagsGood, laid, portsLaid, refsBelow, layerGood, kindLists, interfaceGood, headerHas, stageGood, localGood, stepHas, stepNamed, stepGood, portGood}
+use Rattle.rules.specs.Faults.{orNone, typeNamed, flagsGood, laid, portsLaid, refsBelow, layerGood, kindLists, interfaceGood, headerHas, stageGood, localGood, stepHas, stepNamed, stepGood, portGood}
 use Rattle.records.proofs.Guards.{left-true, right-true}
 use Rattle.image.specs.Encode.{onwardB, portB, stepA, stepB}
 use Rattle.image.specs.Kind.{all}

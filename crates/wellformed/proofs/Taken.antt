@@ -11,7 +11,7 @@ use Rattle.records.specs.declared.layout.Counts.{Counts}
 use Rattle.records.specs.declared.running.Running.{Running}
 use Rattle.records.specs.declared.running.Walked.{Walked}
 use Rattle.records.specs.declared.running.Walked.the-variants.{At, Clean}
-use Rattle.records.specs.Judge.{walkAll}
+use Rattle.judging.specs.Judge.{walkAll}
 use Rattle.records.specs.Layout.{countsOf, within, lengthOf, sections}
 use Rattle.image.specs.declared.answer.Answer.{Answer}
 use Rattle.image.specs.Check.{marked, owned, kindAnswer, recordAnswer, checkOf}

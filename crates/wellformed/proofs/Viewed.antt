@@ -37,8 +37,8 @@ use Rattle.records.specs.declared.running.Running.{Running}
 use Rattle.records.specs.declared.running.Judged.the-variants.{Next}
 use Rattle.records.specs.declared.running.Walked.the-variants.{Clean}
 use Rattle.records.specs.Bytes.{Bytes, u16At, u32At}
-use Rattle.records.specs.Faults.{orNone, typeNamed, laid, refsBelow, layerFields, layerGood, kindLists, entriesNamed, interfaceFields, interfaceGood, headerHas, transferGood, stageNamed, stageLists, stageFields, stageGood, localGood, stepHas, stepNamed, stepGood, portGood}
-use Rattle.records.specs.Judge.{judge, walkSection}
+use Rattle.rules.specs.Faults.{orNone, typeNamed, laid, refsBelow, layerFields, layerGood, kindLists, entriesNamed, interfaceFields, interfaceGood, headerHas, transferGood, stageNamed, stageLists, stageFields, stageGood, localGood, stepHas, stepNamed, stepGood, portGood}
+use Rattle.judging.specs.Judge.{judge, walkSection}
 use Rattle.records.specs.Layout.{countsOf, countOf, within, Sized}
 use Rattle.records.specs.Records.{layerAt, interfaceAt, stageAt, localAt, stepAt, portAt}
 use Rattle.records.proofs.Guards.{left-true, right-true}

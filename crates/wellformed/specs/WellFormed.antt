@@ -19,7 +19,7 @@ use Rattle.vir.specs.Ids.{none}
 use Rattle.vir.specs.Interface.{kindNumber, entriesOf}
 use Rattle.vir.specs.Step.{stepPorts}
 use Rattle.records.specs.declared.layout.Counts.{Counts}
-use Rattle.records.specs.Faults.{orNone, typeNamed, flagsGood}
+use Rattle.rules.specs.Faults.{orNone, typeNamed, flagsGood}
 use Rattle.records.specs.Layout.{within}
 use Rattle.image.specs.Encode.{allActions, allPorts, countsOfVir}
 use Rattle.image.specs.Kind.{all}

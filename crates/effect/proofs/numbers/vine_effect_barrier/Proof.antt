@@ -1,3 +1,5 @@
+use mathlib.Core.Path.{_∙_, ap}
+use Rattle.effect.specs.Effect.{barrier}
 use borrow.Author.Needs.{needs}
 use Rattle.effect.proofs.numbers.vine_effect_barrier.Statement.{statement}
 use Rattle.effect.proofs.numbers.vine_effect_barrier.Tie as tie
@@ -9,7 +11,7 @@ barrier-requires : tie.Need-barrier-requires
 barrier-requires c κs = search needs
 
 returns : tie.Need-returns
-returns c = cc
+returns c = c .barrier .ensures ∙ ap barrier (c .before .from-number .ensures)
 
 pub vine-effect-barrier-spec : {M : Type 1} → statement M
 vine-effect-barrier-spec = tie.close (tie.spec from-number-requires barrier-requires returns)

@@ -1,3 +1,5 @@
+use mathlib.Core.Path.{_∙_, ap, ap₂}
+use Rattle.effect.specs.Effect.{numberOf, join}
 use borrow.Author.Needs.{needs}
 use Rattle.effect.proofs.numbers.vine_effect_join.Statement.{statement}
 use Rattle.effect.proofs.numbers.vine_effect_join.Tie as tie
@@ -15,7 +17,9 @@ number-requires : tie.Need-number-requires
 number-requires c κs = search needs
 
 returns : tie.Need-returns
-returns c = cc
+returns c =
+    c .number .ensures
+    ∙ ap numberOf (c .before .join .ensures ∙ ap₂ join (c .before .before .before .from-number .ensures) (c .before .before .from-number2 .ensures))
 
 pub vine-effect-join-spec : {M : Type 1} → statement M
 vine-effect-join-spec =

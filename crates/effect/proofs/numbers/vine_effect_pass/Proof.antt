@@ -1,3 +1,5 @@
+use mathlib.Core.Path.{_∙_, ap}
+use Rattle.effect.specs.Effect.{pass}
 use borrow.Author.Needs.{needs}
 use Rattle.effect.proofs.numbers.vine_effect_pass.Statement.{statement}
 use Rattle.effect.proofs.numbers.vine_effect_pass.Tie as tie
@@ -9,7 +11,7 @@ pass-requires : tie.Need-pass-requires
 pass-requires c κs = search needs
 
 returns : tie.Need-returns
-returns c = cc
+returns c = c .pass .ensures ∙ ap pass (c .before .from-number .ensures)
 
 pub vine-effect-pass-spec : {M : Type 1} → statement M
 vine-effect-pass-spec = tie.close (tie.spec from-number-requires pass-requires returns)

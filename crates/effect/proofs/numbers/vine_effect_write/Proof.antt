@@ -1,3 +1,5 @@
+use mathlib.Core.Path.{_∙_, ap}
+use Rattle.effect.specs.Effect.{write}
 use borrow.Author.Needs.{needs}
 use Rattle.effect.proofs.numbers.vine_effect_write.Statement.{statement}
 use Rattle.effect.proofs.numbers.vine_effect_write.Tie as tie
@@ -9,7 +11,7 @@ write-requires : tie.Need-write-requires
 write-requires c κs = search needs
 
 returns : tie.Need-returns
-returns c = cc
+returns c = c .write .ensures ∙ ap write (c .before .from-number .ensures)
 
 pub vine-effect-write-spec : {M : Type 1} → statement M
 vine-effect-write-spec = tie.close (tie.spec from-number-requires write-requires returns)

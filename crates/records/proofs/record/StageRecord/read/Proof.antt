@@ -1,3 +1,5 @@
+use Prim.Native.Nat.{_+_}
+use Rattle.records.specs.Bytes.{u8At}
 use borrow.Author.Needs.{needs}
 use Rattle.records.proofs.record.StageRecord.read.Statement.{statement}
 use Rattle.records.proofs.record.StageRecord.read.Tie as tie
@@ -66,7 +68,19 @@ shared-slice-read-t29 : tie.Need-shared-slice-read-t29
 shared-slice-read-t29 c = search needs
 
 returns : tie.Need-returns
-returns c = simp (c .before .u16-at4 .ensures, c .before .before .u16-at3 .ensures, c .before .before .before .read3 .ensures, c .before .before .before .before .read2 .ensures, c .before .before .before .before .before .read .ensures, c .before .before .before .before .before .before .u32-at2 .ensures, c .before .before .before .before .before .before .before .before .u16-at2 .ensures, c .before .before .before .before .before .before .before .before .before .u16-at .ensures, c .before .before .before .before .before .before .before .before .before .before .u32-at .ensures)
+returns c = λ i. record {
+  span = record { 0 = (c .before .before .before .before .before .before .before .before .before .before .u32-at .ensures) i };
+  interface = record { 0 = (c .before .before .before .before .before .before .before .before .before .u16-at .ensures) i };
+  layer = record { 0 = (c .before .before .before .before .before .before .before .before .u16-at2 .ensures) i };
+  header = u8At (c .before .before .before .before .before .before .before .before .before .before .before .before .args .s .now) (c .before .before .before .before .before .before .before .before .before .before .before .before .args .p + 8);
+  key = (c .before .before .before .before .before .before .u32-at2 .ensures) i;
+  ports = (c .before .before .before .before .before .read .ensures) i;
+  declarations = (c .before .before .before .before .read2 .ensures) i;
+  steps = (c .before .before .before .read3 .ensures) i;
+  wires = (c .before .before .u16-at3 .ensures) i;
+  transfer = record { 0 = (c .before .u16-at4 .ensures) i };
+  payload = u8At (c .before .before .before .before .before .before .before .before .before .before .before .before .args .s .now) (c .before .before .before .before .before .before .before .before .before .before .before .before .args .p + 29);
+}
 
 pub read-spec : {M : Type 1} → statement M
 read-spec =

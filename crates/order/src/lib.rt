@@ -1,0 +1,1 @@
+// The order that union gives: definitions and laws, and nothing that runs.

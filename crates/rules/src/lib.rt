@@ -1,0 +1,2 @@
+// Whether each record of an image keeps its rule.
+pub mod faults;
