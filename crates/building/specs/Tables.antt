@@ -23,13 +23,13 @@ abbrev pub disconnectRow : List ℕ → ℕ → Disconnect
 disconnectRow t k = record { stage = rowAt t k 0; connected = rowAt t k 1; disconnected = rowAt t k 2 }
 
 -- what fill_segments reads of a network: the seeds that every local shares, all touches, all disconnects
-pub record Seeded (n : Network) (base touches disconnects : List ℕ) (z : Built) : Type 0 where
+pub record Seeded (n : Network) (b t d : List ℕ) (z : Built) : Type 0 where
   pub vars : z .vars ≡ n .vars
-  pub base : effectsOf (take (z .vars) base) ≡ baseOf n
-  pub touches : collect (touchRow touches) 0 (z .touches) ≡ flatTouches (n .segments)
-  pub disconnects : collect (disconnectRow disconnects) 0 (z .disconnects) ≡ n .disconnects
+  pub base : effectsOf (take (z .vars) b) ≡ baseOf n
+  pub touches : collect (touchRow t) 0 (z .touches) ≡ flatTouches (n .segments)
+  pub disconnects : collect (disconnectRow d) 0 (z .disconnects) ≡ n .disconnects
 
 -- .. and the relations
-pub record Held (n : Network) (relations base touches disconnects : List ℕ) (z : Built) : Type 0 where
-  pub seeded : Seeded n base touches disconnects z
-  pub relations : relationsOf relations (z .relations) ≡ n .relations
+pub record Held (n : Network) (r b t d : List ℕ) (z : Built) : Type 0 where
+  pub seeded : Seeded n b t d z
+  pub relations : relationsOf r (z .relations) ≡ n .relations

@@ -7,7 +7,7 @@ use native.Mathlib.Omega.{arith}
 use lib.ListN.{length, getD, length-append, List·getD-append}
 use lib.Seq.{getD-append-add}
 use Rattle.image.specs.Kind.{concat}
-use Rattle.image.proofs.Standing.{Stands}
+use Rattle.image.specs.Stands.{Stands}
 
 module _ {A B : Type 0} (f : A → List B) (m : ℕ) where
   -- at most m each

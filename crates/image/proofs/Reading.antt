@@ -17,7 +17,8 @@ use Rattle.image.proofs.Concat.{length-concat}
 use Rattle.image.proofs.Gathered.{nthRef, nthPort, nthAction, nthFlex, nthLocal, nthStage, nthInterface, nthLayer}
 use Rattle.records.proofs.Guards.{left-true, right-true}
 use Rattle.image.proofs.Named.{kind-found, header-found, port-found, step-found}
-use Rattle.image.proofs.Standing.{Stands, stands-none, stands-next, stands-move, stands-left, stands-right, stands-past, stands-collect, stands-whole, stands-concat, u16-in}
+use Rattle.image.specs.Stands.{Stands}
+use Rattle.image.proofs.Standing.{stands-none, stands-next, stands-move, stands-left, stands-right, stands-past, stands-collect, stands-whole, stands-concat, u16-in}
 use Rattle.image.proofs.Written.{layer-written, interface-written, stage-written, local-written, type-written, step-written, port-written}
 
 -- what stands in a section is what is read from it

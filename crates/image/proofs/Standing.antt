@@ -10,11 +10,8 @@ use Rattle.effect.proofs.Finite.{getD-any}
 use Rattle.records.specs.Bytes.{u8At, u16At, u32At}
 use Rattle.image.specs.Encode.{u16Bytes, u32Bytes}
 use Rattle.image.specs.Kind.{concat}
+use Rattle.image.specs.Stands.{Stands}
 use Rattle.image.specs.View.{collect}
-
--- the values of h from a on begin with l
-pub record Stands {A : Type 0} (h : ℕ → A) (a : ℕ) (l : List A) : Type 0 where
-  pub at : (d : A) (k : ℕ) → k < length l → h (a + k) ≡ getD l k d
 
 module _ {A : Type 0} {h : ℕ → A} where
   pub stands-none : {a : ℕ} → Stands h a []

@@ -19,7 +19,8 @@ use Rattle.records.specs.Bytes.{u8At, u16At, u32At}
 use Rattle.records.specs.Records.{layerAt, interfaceAt, stageAt, localAt, typeAt, stepAt, portAt}
 use Rattle.image.specs.Encode.{layersBytes, interfacesBytes, stagesBytes, localBytes, flexBytes, actionsBytes, portBytes, stepA, stepB, portA, portB}
 use Rattle.image.specs.Vir.{Layer, Interface, Port, Action, Stage, Local, Flex}
-use Rattle.image.proofs.Standing.{Stands, u8-in, u16-in, u32-in}
+use Rattle.image.specs.Stands.{Stands}
+use Rattle.image.proofs.Standing.{u8-in, u16-in, u32-in}
 
 abbrev pub layerRecord : ℕ → Layer → LayerRecord
 layerRecord refs y = record { parent = record { 0 = y .parent }; stages = record { first = refs; count = length (y .stages) } }

@@ -7,6 +7,7 @@ pub mod Kind
 pub mod LayerRules
 pub mod Loops
 pub mod Samples
+pub mod Stands
 pub mod Tally
 pub mod View
 pub mod Vir

@@ -13,7 +13,8 @@ use Rattle.records.specs.Bytes.{u8At, u16At, u32At}
 use Rattle.image.specs.Encode.{u32Bytes}
 use Rattle.image.specs.Kind.{concat}
 use Rattle.image.proofs.Concat.{Even, length-concat, stands-nth}
-use Rattle.image.proofs.Standing.{Stands, stands-left, stands-right, stands-whole, u8-in, u16-in, u32-in}
+use Rattle.image.specs.Stands.{Stands}
+use Rattle.image.proofs.Standing.{stands-left, stands-right, stands-whole, u8-in, u16-in, u32-in}
 use Rattle.report.specs.Fields.{Shaped, Fields, incomingAt, rowSize, rowAt, diagAt, halfAt, diagOf}
 use Rattle.report.specs.Report.{Wire, Diag, Report, most, noWire, half, rowBytes, diagBytes, headBytes, reportBytes}
 use Rattle.report.proofs.Written.{half-low}

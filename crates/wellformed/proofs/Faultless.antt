@@ -21,7 +21,8 @@ use Rattle.image.specs.Encode.{layersBytes, interfacesBytes, stagesBytes, local
 use Rattle.image.specs.Kind.{all, concat}
 use Rattle.image.specs.Vir.{Layer, Interface, Port, Action, Stage, Local, Flex}
 use Rattle.image.proofs.Gathered.{nthRef}
-use Rattle.image.proofs.Standing.{Stands, stands-left, stands-right, stands-past}
+use Rattle.image.specs.Stands.{Stands}
+use Rattle.image.proofs.Standing.{stands-left, stands-right, stands-past}
 use Rattle.image.proofs.Written.{layer-written, interface-written, stage-written, local-written, type-written, step-written, port-written}
 use Rattle.wellformed.specs.WellFormed.{layerFits, interfaceFits, stageFits, localFits, actionFits, portFits, flexFits}
 use Rattle.wellformed.proofs.Good.{layer-good, interface-good, stage-good, local-good, step-good, port-good}

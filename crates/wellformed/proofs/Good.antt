@@ -32,7 +32,8 @@ use Rattle.image.specs.Kind.{all}
 use Rattle.image.specs.Vir.{Layer, Interface, Port, Action, Stage, Local}
 use Rattle.image.proofs.Gathered.{nthRef}
 use Rattle.image.proofs.Named.{kind-found, header-found, step-found}
-use Rattle.image.proofs.Standing.{Stands, stands-collect}
+use Rattle.image.specs.Stands.{Stands}
+use Rattle.image.proofs.Standing.{stands-collect}
 use Rattle.image.proofs.Written.{layerRecord, interfaceRecord, stageRecord, localRecord, stepRecord, portRecord}
 use Rattle.wellformed.specs.WellFormed.{u16Fits, u32Fits, layerFits, entriesFit, interfaceFits, stageFits, localFits, onwardFits, stepFits, actionFits, portKindFits, portFits}
 use Rattle.wellformed.proofs.Entries.{refs-same, entries-same}
