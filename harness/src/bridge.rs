@@ -214,6 +214,31 @@ pub fn invocation_effect(tag: u8, inverse: bool, fork: bool) -> Effect {
     analyzer::probe::invocation_effect(&invocation(tag, ports), inverse, fork)
 }
 
+/// `set_wires` for a local with these flags: its wire where these effects are inside and outside, and whether InfiniteLoop is
+/// said.
+pub fn set_wires(flags: u8, interior: Effect, exterior: Effect) -> (Option<Triple>, bool) {
+    let image = Image {
+        interfaces: vec![Interface { kind: kind::MATCH, ..Interface::default() }],
+        locals: vec![Local { flags, ..Local::default() }],
+        types: vec![Type::default()],
+        ..Image::default()
+    };
+    let (mut vir, _) = to_vir(&image);
+    let said = analyzer::probe::set_wires(&mut vir, interior, exterior);
+    (wires(&vir)[0][0], said)
+}
+
+/// `report_errors` for local 0 of a flat image, with its wires at the interfaces, all of which are come to.
+pub fn report_errors(image: &Image, wires: &[Option<Triple>]) -> Vec<Diagnostic> {
+    let (mut vir, _) = to_vir(image);
+    for (interface, wire) in vir.interfaces.values_mut().zip(wires) {
+        interface.incoming = 1;
+        interface.wires.extend(wire.map(|wire| (tir::Local(0), wire)));
+    }
+    let diags = analyzer::probe::report_errors(&mut vir);
+    diags.iter().map(|diag| diagnostic_of(diag, 0)).collect()
+}
+
 fn last(ports: &mut Vec<vir::Port>) -> vir::Port {
     ports.pop().expect("a checked count of ports")
 }

@@ -19,4 +19,6 @@ pub mod shrink;
 #[cfg(feature = "oracle")]
 pub mod slips;
 #[cfg(feature = "oracle")]
+pub mod tables;
+#[cfg(feature = "oracle")]
 pub mod worklist;

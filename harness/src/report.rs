@@ -100,11 +100,11 @@ impl Report {
 }
 
 /// Bit 0 says that there is a wire, bits 1 to 3 are the triple.
-fn half(wire: Option<Triple>) -> u8 {
+pub fn half(wire: Option<Triple>) -> u8 {
     wire.map_or(0, |(a, b, c)| 1 | u8::from(a) << 1 | u8::from(b) << 2 | u8::from(c) << 3)
 }
 
-fn triple(half: u8) -> Option<Triple> {
+pub fn triple(half: u8) -> Option<Triple> {
     let bit = |n: u8| half >> n & 1 == 1;
     bit(0).then(|| (bit(1), bit(2), bit(3)))
 }

@@ -1,4 +1,5 @@
 pub mod Agreeing
+pub mod AgreeingTables
 pub mod Arrivals
 pub mod Clearing
 pub mod Computed

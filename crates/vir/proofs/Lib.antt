@@ -1,2 +1,3 @@
+pub mod Agreeing
 pub mod Arms
 pub mod Numbered

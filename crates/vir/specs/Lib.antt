@@ -5,4 +5,5 @@ pub mod Ids
 pub mod Interface
 pub mod Invocation
 pub mod Port
+pub mod RustInvocations
 pub mod Step

@@ -26,6 +26,8 @@ mod sample;
 mod show;
 #[cfg(feature = "oracle")]
 mod slips;
+#[cfg(feature = "oracle")]
+mod tables;
 pub mod words;
 
 use command::Command;
@@ -36,10 +38,10 @@ use {no_library as bench, no_library as compare};
 #[cfg(not(feature = "oracle"))]
 use {
     no_sources as evaluate, no_sources as families, no_sources as flat, no_sources as picture,
-    no_sources as report, no_sources as slips,
+    no_sources as report, no_sources as slips, no_sources as tables,
 };
 
-pub const COMMANDS: [Command; 12] = [
+pub const COMMANDS: [Command; 13] = [
     Command {
         name: "report",
         arguments: &[],
@@ -88,6 +90,12 @@ pub const COMMANDS: [Command; 12] = [
         arguments: &["[N]"],
         help: "the definitions against Vine's own code on N short images of each family, 12 if not said",
         run: evaluate::run,
+    },
+    Command {
+        name: "tables",
+        arguments: &["NAME"],
+        help: "the antt text of RustInvocations, RustWires or RustErrors, by Vine's own code",
+        run: tables::run,
     },
     Command {
         name: "compare",

@@ -44,7 +44,7 @@ fn a_misuse_gets_the_usage_and_status_2() {
     let image = bytes("sample example", b"");
     let lines = "|nothing|show 1|sample|sample nothing|generate FlatSmall|generate Nothing 1\
         |generate FlatSmall -1|generate FlatSmall 18446744073709551616|report 1|picture|help me\
-        |families|families 1 2|slips 1 2|evaluate 1 2|compare 1 2|bench 1";
+        |families|families 1 2|slips 1 2|evaluate 1 2|tables|compare 1 2|bench 1";
     for line in lines.split('|') {
         misused(line, &image);
     }
@@ -107,7 +107,7 @@ fn the_listing_has_a_line_for_each_record() {
 #[cfg(not(feature = "oracle"))]
 #[test]
 fn without_the_sources_a_line_says_so() {
-    for line in ["report", "flat", "picture 0", "families 1", "slips", "evaluate"] {
+    for line in ["report", "flat", "picture 0", "families 1", "slips", "evaluate", "tables RustWires"] {
         let Outcome { status, out, err } = asked(line, &bytes("sample example", b""));
         assert_eq!((status, out, err.lines().count()), (2, vec![], 1), "{line}");
     }

@@ -6,7 +6,7 @@ use std::{collections::BTreeMap, collections::HashMap, mem::take};
 
 use vine_util::idx::{IdxVec, IntMap};
 
-use super::{Analyzer, Effect};
+use super::{Analyzer, Effect, EffectVar};
 use crate::structures::{
     ast::Span,
     chart::Chart,
@@ -111,6 +111,29 @@ fn process_local(analyzer: &mut Analyzer<'_>, local: Local, declared: Vec<StageI
     let effects = analyzer.effects.vec.clone();
     let diags = take(&mut analyzer.diags.diags);
     Some(Processed { local: local.0, inverse: info.inv.0, seeds, effects, diags })
+}
+
+/// `set_wires` alone for local 0, with these effects inside and outside of interface 0: whether InfiniteLoop is said. The wire
+/// is the `Vir`'s.
+pub fn set_wires(vir: &mut Vir, interior: Effect, exterior: Effect) -> bool {
+    let interface = &mut vir.interfaces[InterfaceId(0)];
+    interface.incoming = 1;
+    (interface.interior, interface.exterior) = (Some(EffectVar(1)), Some(EffectVar(2)));
+    let (chart, mut diags) = (Chart::default(), Diags::default());
+    let mut analyzer = start(&chart, &mut diags, Span::NONE, vir);
+    analyzer.effects = IdxVec::from([Effect::Pass, interior, exterior]);
+    let info = &analyzer.locals[Local(0)];
+    analyzer.set_wires(Local(0), info.inv, info.fork.is_some());
+    analyzer.infinite_loop
+}
+
+/// `report_errors` alone for local 0, with the wires and the incoming of the `Vir`.
+pub fn report_errors(vir: &mut Vir) -> Vec<Diag> {
+    let (chart, mut diags) = (Chart::default(), Diags::default());
+    let mut analyzer = start(&chart, &mut diags, Span::NONE, vir);
+    let info = &analyzer.locals[Local(0)];
+    analyzer.report_errors(Local(0), info);
+    diags.diags
 }
 
 /// `Invocation::effect`, which is private to the analyzer.
