@@ -12,7 +12,7 @@ macro_rules! slip {
     };
 }
 
-pub const SAMPLES: [Sample; 16] = [
+pub const SAMPLES: [Sample; 19] = [
     ("example", || example(vec![invoke(tag::BARRIER, 8), invoke(tag::READ, 9)])),
     ("clean", || example(vec![invoke(tag::READ, 9)])),
     ("endless", endless),
@@ -29,6 +29,9 @@ pub const SAMPLES: [Sample; 16] = [
     slip!("infinite-twice"),
     slip!("barrier-merge"),
     slip!("never-union"),
+    slip!("input-without-pass"),
+    slip!("exterior-pass"),
+    slip!("exterior-barrier"),
 ];
 
 /// Images whose normalised image has as many locals as there may be, and one more.

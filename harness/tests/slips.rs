@@ -14,7 +14,7 @@ mod page {
         picture::picture,
         samples::SAMPLES,
         shrink::weight,
-        slips::{SLIPS, shows, slipped, smallest},
+        slips::{SLIPS, shows_alone, slipped, smallest},
     };
 
     /// The slips with their numbers, names and images.
@@ -48,7 +48,7 @@ use page::*;
 
 live!(each_image_shows_its_slip, {
     for (slip, name, image) in samples() {
-        assert!(shows(slip, &image), "{name}");
+        assert!(shows_alone(slip, &image), "{name}");
     }
 });
 

@@ -1,7 +1,7 @@
 //! The slips, and the edits that make them.
 
 /// A slip's name, and what goes wrong.
-pub const SLIPS: [(&str, &str); 11] = [
+pub const SLIPS: [(&str, &str); 14] = [
     ("two-rounds", "the fixed point stops after two rounds over the relations"),
     ("first-in-first-out", "the worklist is taken first in, first out"),
     ("arrival", "a split numbers its new locals as their wires were opened, and not lowest wire first"),
@@ -13,6 +13,12 @@ pub const SLIPS: [(&str, &str); 11] = [
     ("infinite-twice", "InfiniteLoop is reported wherever it is met, and not once a call"),
     ("barrier-merge", "the union of Barrier and BarrierWrite is BarrierWrite"),
     ("never-union", "a union with Never is Never"),
+    (
+        "input-without-pass",
+        "a value goes in only where it is read inside, and not where it passes to be handed out again",
+    ),
+    ("exterior-pass", "whether a value that is handed out also passes is asked of the effect outside"),
+    ("exterior-barrier", "a wire's barrier is that of the effect outside"),
 ];
 
 /// In the file, `from`, which it has exactly once, becomes `to`. In `to`, SLIP says whether the slip is to be made, so
@@ -24,7 +30,7 @@ pub struct Edit {
     pub to: &'static str,
 }
 
-pub const EDITS: [Edit; 17] = [
+pub const EDITS: [Edit; 20] = [
     // PASS alone waits and hands out every relation twice; nothing else enters.
     Edit {
         slip: "two-rounds",
@@ -143,5 +149,23 @@ pub const EDITS: [Edit; 17] = [
         file: "effect.rs",
         from: "UNION[self as usize][other as usize]",
         to: "if SLIP && (self == X || other == X) { X } else { UNION[self as usize][other as usize] }",
+    },
+    Edit {
+        slip: "input-without-pass",
+        file: "analyzer.rs",
+        from: "interior.read() || output && interior.pass()",
+        to: "interior.read() || !SLIP && output && interior.pass()",
+    },
+    Edit {
+        slip: "exterior-pass",
+        file: "analyzer.rs",
+        from: "output && interior.pass()",
+        to: "output && if SLIP { exterior.pass() } else { interior.pass() }",
+    },
+    Edit {
+        slip: "exterior-barrier",
+        file: "analyzer.rs",
+        from: "let barrier = interior.barrier();",
+        to: "let barrier = if SLIP { exterior.barrier() } else { interior.barrier() };",
     },
 ];
