@@ -91,7 +91,7 @@ module _ (r : Report) where
   kept-length : length kept ≡ min (length (r .diags)) most
   kept-length = length-take most (r .diags) ∙ min-comm most (length (r .diags))
 
-  to-rows : length (headBytes r ++ incoming-part) ≡ incomingAt interfaces
+  pub to-rows : length (headBytes r ++ incoming-part) ≡ incomingAt interfaces
   to-rows = omega (arith, length-append (headBytes r) incoming-part, length-concat u32Bytes 4 (r .incoming) (λ d k h. refl))
 
   whole : Stands (u8At s) 0 (headBytes r ++ incoming-part ++ rows-part ++ diags-part)
@@ -122,19 +122,19 @@ module _ (r : Report) where
       u32-in s 0 (stands-nth u32Bytes 4 {b = incomingAt i} (r .incoming) (λ d k h. refl) incoming-stand 0 i h refl) refl (omega arith)
 
   module _ (shaped : Shaped r) where
-    rows-even : Even rowBytes (rowSize (r .locals)) (r .wires)
+    pub rows-even : Even rowBytes (rowSize (r .locals)) (r .wires)
     rows-even d k h =
         row-length (getD (r .wires) k d)
         ∙ ap (λ (ws : List Wire). rowSize (length ws)) (getD-any (r .wires) k d [] h)
         ∙ ap rowSize (shaped .wires k h)
 
-    to-diags : length (headBytes r ++ incoming-part ++ rows-part) ≡ rowAt interfaces (r .locals) interfaces
+    pub to-diags : length (headBytes r ++ incoming-part ++ rows-part) ≡ rowAt interfaces (r .locals) interfaces
     to-diags =
         length-append (headBytes r ++ incoming-part) rows-part
         ∙ ap₂ (λ (a b : ℕ). a + b) to-rows
         (length-concat rowBytes (rowSize (r .locals)) (r .wires) rows-even ∙ ap (λ (n : ℕ). rowSize (r .locals) * n) (shaped .rows))
 
-    to-end : length s ≡ diagAt interfaces (r .locals) (min (length (r .diags)) most)
+    pub to-end : length s ≡ diagAt interfaces (r .locals) (min (length (r .diags)) most)
     unfolding reportBytes
     to-end =
         length-append (headBytes r ++ incoming-part ++ rows-part) diags-part

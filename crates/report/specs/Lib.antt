@@ -1,3 +1,4 @@
 pub mod Fields
+pub mod Promises
 pub mod Report
 pub mod Writing

@@ -1,1 +1,5 @@
-// The report's bytes. For now their definition, in specs/.
+// The report's bytes, part by part: numbers, diagnostics, a column of wires, how often each interface is come to, and the head.
+pub mod bytes;
+pub mod column;
+pub mod diag;
+pub mod head;
