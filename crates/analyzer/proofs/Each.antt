@@ -2,6 +2,7 @@
 use mathlib.Core.List.{List, [], _∷_, _++_}
 use Prim.Native.Nat.{ℕ, zero, suc, _<_}
 use native.Mathlib.Nat.{le-of-suc-le-suc, not-suc-le-zero}
+use native.Mathlib.Omega.{arith}
 use lib.ListN.{length, getD}
 
 abbrev pub Each : {A : Type 0} → (A → Type 0) → List A → Type 0
@@ -28,6 +29,11 @@ module _ {A : Type 0} where
   each-at P [] k d h l = absurd (not-suc-le-zero l)
   each-at P (x ∷ xs) zero d h l = h .0
   each-at P (x ∷ xs) (suc k) d h l = each-at P xs k d (h .1) (le-of-suc-le-suc l)
+
+  -- .. and back
+  pub each-from : (P : A → Type 0) (xs : List A) (d : A) → ((k : ℕ) → k < length xs → P (getD xs k d)) → Each P xs
+  each-from P [] d f = tt
+  each-from P (x ∷ xs) d f = (f 0 (omega arith), each-from P xs d (λ k h. f (suc k) (omega (arith, h))))
 
   pub each-left : (P : A → Type 0) (xs ys : List A) → Each P (xs ++ ys) → Each P xs
   each-left P [] ys h = tt
