@@ -1,2 +1,3 @@
+pub mod Entering
 pub mod Holding
 pub mod Solving

@@ -1,2 +1,3 @@
 // analyzer.rs: process_local and analyze, in lent tables.
+pub mod enter;
 pub mod solve_local;

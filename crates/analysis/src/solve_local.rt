@@ -34,5 +34,13 @@ pub fn solve_local(
     fill_segments(s, c, l, inv, z, base, touches, disconnects, effects);
     let n = z.vars as usize;
     let seeds = &mut effects[..n];
-    fixed_point(inv, relations, z.relations as usize, starts, entries, seeds, stack)
+    fixed_point(
+        inv,
+        relations,
+        z.relations as usize,
+        starts,
+        entries,
+        seeds,
+        stack,
+    )
 }
