@@ -47,7 +47,7 @@ slice-write-effects c = search needs
 slice-write-effects-2 : tie.Need-slice-write-effects-2
 slice-write-effects-2 c =
     let s = c .before .before .before .before .before .before .before .before in
-    lt-length-set (s .args .effects .now) _ 10 (omega (arith, c .row3 .ensures .0, s .pre .1 .1 .disconnected))
+    lt-length-set (s .args .effects .now) _ _ (omega (arith, c .row3 .ensures .0, s .pre .1 .1 .disconnected))
 
 same-length : tie.Need-same-length
 same-length c = search needs
