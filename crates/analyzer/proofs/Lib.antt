@@ -5,6 +5,7 @@ pub mod Clearing
 pub mod Computed
 pub mod Counts
 pub mod Cuts
+pub mod Declaring
 pub mod Demand
 pub mod Diags
 pub mod Distinct
