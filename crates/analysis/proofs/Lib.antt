@@ -1,3 +1,2 @@
 pub mod Entering
-pub mod Holding
 pub mod Solving

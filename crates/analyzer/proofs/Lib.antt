@@ -28,7 +28,6 @@ pub mod Seeds
 pub mod Setting
 pub mod Silence
 pub mod Sizes
-pub mod Staged
 pub mod Stages
 pub mod Starred
 pub mod Stepped
