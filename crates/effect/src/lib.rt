@@ -1,10 +1,12 @@
 // Vine's effect.rs: what the uses of a local along a path come to, and the two tables over it.
+#![tactic(auto)]
+
 ghost use Rattle.std.specs.Prelude.{◌≡◌};
 ghost use Rattle.effect.specs.Effect.{number_of, effect_of, join, union, read, pass, barrier, write};
 
 mod numbers;
 
-#[derive(Drop)]
+#[derive(Clone, Copy)]
 pub enum Effect {
     Pass,
     Barrier,

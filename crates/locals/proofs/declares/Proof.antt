@@ -21,7 +21,7 @@ reference-requires : tie.Need-reference-requires invariant-loop decreases-loop
 reference-requires c κs =
     let s = c.before.before.before.before.before in
     let w = c.before.loop.invariant in
-    let fit = c.before.before.before.stage.ensures.facts.declarations-fit in
+    let fit = c.before.before.before.stage.ensures.facts.declarations_fit in
     (s.requires.0, omega (arith, w.ends, c.loop-test.true, fit))
 
 returns : tie.Need-returns invariant-loop decreases-loop

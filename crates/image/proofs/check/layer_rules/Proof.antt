@@ -72,10 +72,10 @@ module _ (c : tie.After-entered-once) where
   g : entered_from_parent (v (p (o (k (i n))))) ≡ true
   g = from_parent n (not-false _ c.before.before.if5.false)
 
-  entered_all : {x : Bool} → c.entered-once.result ≡ x → entered_once (v (p (o (k (i n))))) ≡ x
+  entered_all : {x : Bool} → c.entered_once_lem.result ≡ x → entered_once (v (p (o (k (i n))))) ≡ x
   entered_all e =
       let st = start (p (o (k (i n)))) in
-      entered-counted st.args.s.now st.args.c st.pre.sized _ n.jump-all.ensures.1 ∙ sym c.entered-once.ensures ∙ e
+      entered-counted st.args.s.now st.args.c st.pre.sized _ n.jump-all.ensures.1 ∙ sym c.entered_once_lem.ensures ∙ e
 
 returns : tie.Need-returns
 returns c = rule_parents (v c.before) (parents c.before (not-true _ c.if1.true))

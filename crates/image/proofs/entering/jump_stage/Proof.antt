@@ -60,7 +60,7 @@ module _ (c : tie.After-read) where
   steps_are = c.read.ensures ∙ ap (λ (p : ℕ). run_at s (p + 30 * t + 21)) c.before.before.stages-at.ensures
 
   fit : Inside c.read.result counts.steps
-  fit = subst (λ (run : Run). Inside run counts.steps) (sym steps_are) (start.pre.0.stages t start.pre.1.1.1.0).steps-fit
+  fit = subst (λ (run : Run). Inside run counts.steps) (sym steps_are) (start.pre.0.stages t start.pre.1.1.1.0).steps_fit
 
 jump-run-requires : tie.Need-jump-run-requires
 jump-run-requires c κs =

@@ -46,7 +46,7 @@ loop-again c =
     let more : loop.l < args.c.layers = c.before.before.loop-test.true in (
       loop.invariant.0,
       owning_on loop.invariant.1 (record { parent = none; stages = [] }) (omega (arith, more, length-layers args.s.now args.c))
-          c.own-layer.ensures.0 c.own-layer.ensures.1,
+          c.own_layer_lem.ensures.0 c.own_layer_lem.ensures.1,
     )
 
 returns : tie.Need-returns invariant-loop decreases-loop

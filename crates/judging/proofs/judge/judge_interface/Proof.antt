@@ -10,7 +10,7 @@ interface-good-requires : tie.Need-interface-good-requires
 interface-good-requires c κs = search rules
 
 returns : tie.Need-returns
-returns c = judged_no (interface_good c.before.before.before.args.s.now c.before.before.before.args.c c.before.before.before.args.r c.before.before.before.args.i) _ _ c.before.interface-good.ensures c.if1.true
+returns c = judged_no (interface_good c.before.before.before.args.s.now c.before.before.before.args.c c.before.before.before.args.r c.before.before.before.args.i) _ _ c.before.interface_good_lem.ensures c.if1.true
 
 cast-t8 : tie.Need-overflow-cast-t8
 cast-t8 c = search rules
@@ -21,11 +21,11 @@ add-t9 c =
     omega (
       arith,
       interface-next start.args.s.now start.args.c start.args.r start.args.i
-          (guard_holds (interface_good start.args.s.now start.args.c start.args.r start.args.i) _ c.before.before.before.interface-good.ensures c.before.before.if1.false),
+          (guard_holds (interface_good start.args.s.now start.args.c start.args.r start.args.i) _ c.before.before.before.interface_good_lem.ensures c.before.before.if1.false),
     )
 
 returns-2 : tie.Need-returns-2
-returns-2 c = judged_next (interface_good c.before.before.before.before.before.args.s.now c.before.before.before.before.before.args.c c.before.before.before.before.before.args.r c.before.before.before.before.before.args.i) _ _ c.before.before.before.interface-good.ensures c.before.before.if1.false
+returns-2 c = judged_next (interface_good c.before.before.before.before.before.args.s.now c.before.before.before.before.before.args.c c.before.before.before.before.before.args.r c.before.before.before.before.before.args.i) _ _ c.before.before.before.interface_good_lem.ensures c.before.before.if1.false
 
 pub judge-interface-spec : {M : Type 1} → statement M
 judge-interface-spec = tie.close (tie.spec interface-good-requires returns cast-t8 add-t9 returns-2)

@@ -10,7 +10,7 @@ layer-good-requires : tie.Need-layer-good-requires
 layer-good-requires c κs = search rules
 
 returns : tie.Need-returns
-returns c = judged_no (layer_good c.before.before.before.args.s.now c.before.before.before.args.c c.before.before.before.args.r c.before.before.before.args.l) _ _ c.before.layer-good.ensures c.if1.true
+returns c = judged_no (layer_good c.before.before.before.args.s.now c.before.before.before.args.c c.before.before.before.args.r c.before.before.before.args.l) _ _ c.before.layer_good_lem.ensures c.if1.true
 
 cast-t8 : tie.Need-overflow-cast-t8
 cast-t8 c = search rules
@@ -21,11 +21,11 @@ add-t9 c =
     omega (
       arith,
       layer-next start.args.s.now start.args.c start.args.r start.args.l
-          (guard_holds (layer_good start.args.s.now start.args.c start.args.r start.args.l) _ c.before.before.before.layer-good.ensures c.before.before.if1.false),
+          (guard_holds (layer_good start.args.s.now start.args.c start.args.r start.args.l) _ c.before.before.before.layer_good_lem.ensures c.before.before.if1.false),
     )
 
 returns-2 : tie.Need-returns-2
-returns-2 c = judged_next (layer_good c.before.before.before.before.before.args.s.now c.before.before.before.before.before.args.c c.before.before.before.before.before.args.r c.before.before.before.before.before.args.l) _ _ c.before.before.before.layer-good.ensures c.before.before.if1.false
+returns-2 c = judged_next (layer_good c.before.before.before.before.before.args.s.now c.before.before.before.before.before.args.c c.before.before.before.before.before.args.r c.before.before.before.before.before.args.l) _ _ c.before.before.before.layer_good_lem.ensures c.before.before.if1.false
 
 pub judge-layer-spec : {M : Type 1} → statement M
 judge-layer-spec = tie.close (tie.spec layer-good-requires returns cast-t8 add-t9 returns-2)

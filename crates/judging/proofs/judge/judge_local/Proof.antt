@@ -8,10 +8,10 @@ local-good-requires : tie.Need-local-good-requires
 local-good-requires c κs = search rules
 
 returns : tie.Need-returns
-returns c = judged_no (local_good c.before.before.args.c c.before.before.args.l) c.before.before.args.r _ c.before.local-good.ensures c.if1.true
+returns c = judged_no (local_good c.before.before.args.c c.before.before.args.l) c.before.before.args.r _ c.before.local_good_lem.ensures c.if1.true
 
 returns-2 : tie.Need-returns-2
-returns-2 c = judged_next (local_good c.before.before.args.c c.before.before.args.l) c.before.before.args.r _ c.before.local-good.ensures c.if1.false
+returns-2 c = judged_next (local_good c.before.before.args.c c.before.before.args.l) c.before.before.args.r _ c.before.local_good_lem.ensures c.if1.false
 
 pub judge-local-spec : {M : Type 1} → statement M
 judge-local-spec = tie.close (tie.spec local-good-requires returns returns-2)

@@ -10,7 +10,7 @@ stage-good-requires : tie.Need-stage-good-requires
 stage-good-requires c κs = search rules
 
 returns : tie.Need-returns
-returns c = judged_no (stage_good c.before.before.before.args.s.now c.before.before.before.args.c c.before.before.before.args.r c.before.before.before.args.t) _ _ c.before.stage-good.ensures c.if1.true
+returns c = judged_no (stage_good c.before.before.before.args.s.now c.before.before.before.args.c c.before.before.before.args.r c.before.before.before.args.t) _ _ c.before.stage_good_lem.ensures c.if1.true
 
 module _ (c : tie.Else1) where
   abbrev start : tie.Start
@@ -19,7 +19,7 @@ module _ (c : tie.Else1) where
   placed : Placed start.args.s.now start.args.c start.args.r start.args.t
   placed =
       stage-next start.args.s.now start.args.c start.args.r start.args.t
-      (guard_holds (stage_good start.args.s.now start.args.c start.args.r start.args.t) _ c.before.stage-good.ensures c.if1.false)
+      (guard_holds (stage_good start.args.s.now start.args.c start.args.r start.args.t) _ c.before.stage_good_lem.ensures c.if1.false)
 
 cast-t9 : tie.Need-overflow-cast-t9
 cast-t9 c = search rules
@@ -46,7 +46,7 @@ add-t16 : tie.Need-overflow-add-t16
 add-t16 c = omega (arith, placed c.before.before.before.before.before.before)
 
 returns-2 : tie.Need-returns-2
-returns-2 c = judged_next (stage_good c.before.before.before.before.before.before.before.before.before.args.s.now c.before.before.before.before.before.before.before.before.before.args.c c.before.before.before.before.before.before.before.before.before.args.r c.before.before.before.before.before.before.before.before.before.args.t) _ _ c.before.before.before.before.before.before.before.stage-good.ensures c.before.before.before.before.before.before.if1.false
+returns-2 c = judged_next (stage_good c.before.before.before.before.before.before.before.before.before.args.s.now c.before.before.before.before.before.before.before.before.before.args.c c.before.before.before.before.before.before.before.before.before.args.r c.before.before.before.before.before.before.before.before.before.args.t) _ _ c.before.before.before.before.before.before.before.stage_good_lem.ensures c.before.before.before.before.before.before.if1.false
 
 pub judge-stage-spec : {M : Type 1} → statement M
 judge-stage-spec =

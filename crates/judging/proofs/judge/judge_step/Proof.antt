@@ -12,7 +12,7 @@ step-good-requires : tie.Need-step-good-requires
 step-good-requires c κs = search rules
 
 returns : tie.Need-returns
-returns c = judged_no (step_good c.before.before.args.c c.before.before.args.r c.before.before.args.t) (record { refs = c.before.before.args.r.refs; steps = c.before.before.args.r.steps; ports = c.before.before.args.r.ports + c.before.before.args.t.ports.count }) _ c.before.step-good.ensures c.if1.true
+returns c = judged_no (step_good c.before.before.args.c c.before.before.args.r c.before.before.args.t) (record { refs = c.before.before.args.r.refs; steps = c.before.before.args.r.steps; ports = c.before.before.args.r.ports + c.before.before.args.t.ports.count }) _ c.before.step_good_lem.ensures c.if1.true
 
 cast-t6 : tie.Need-overflow-cast-t6
 cast-t6 c = search rules
@@ -23,11 +23,11 @@ add-t7 c =
     omega (
       arith,
       step-next [] start.args.c start.args.r start.args.t
-          (guard_holds (step_good start.args.c start.args.r start.args.t) _ c.before.before.before.step-good.ensures c.before.before.if1.false),
+          (guard_holds (step_good start.args.c start.args.r start.args.t) _ c.before.before.before.step_good_lem.ensures c.before.before.if1.false),
     )
 
 returns-2 : tie.Need-returns-2
-returns-2 c = judged_next (step_good c.before.before.before.before.args.c c.before.before.before.before.args.r c.before.before.before.before.args.t) _ _ c.before.before.before.step-good.ensures c.before.before.if1.false
+returns-2 c = judged_next (step_good c.before.before.before.before.args.c c.before.before.before.before.args.r c.before.before.before.before.args.t) _ _ c.before.before.before.step_good_lem.ensures c.before.before.if1.false
 
 pub judge-step-spec : {M : Type 1} → statement M
 judge-step-spec = tie.close (tie.spec step-good-requires returns cast-t6 add-t7 returns-2)

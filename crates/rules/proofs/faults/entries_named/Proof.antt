@@ -15,7 +15,7 @@ closure-named-requires : tie.Need-closure-named-requires
 closure-named-requires c κs = omega (arith, c.before.before.before.before.before.requires.1.1 c.if2.true)
 
 returns-2 : tie.Need-returns-2
-returns-2 c = c.closure-named.ensures ∙ entries_closure c.before.before.before.before.before.before.args.s.now c.before.before.before.before.before.before.args.c c.before.before.before.before.before.before.args.i c.before.before.before.before.before.before.args.at c.before.before.before.before.before.before.requires.0 c.before.before.before.if1.false c.before.if2.true
+returns-2 c = c.closure_named_lem.ensures ∙ entries_closure c.before.before.before.before.before.before.args.s.now c.before.before.before.before.before.before.args.c c.before.before.before.before.before.before.args.i c.before.before.before.before.before.before.args.at c.before.before.before.before.before.before.requires.0 c.before.before.before.if1.false c.before.if2.true
 
 refs-below-requires-2 : tie.Need-refs-below-requires-2
 refs-below-requires-2 c κs = search rules

@@ -8,7 +8,7 @@ kind-lists-requires : tie.Need-kind-lists-requires
 kind-lists-requires c κs = search rules
 
 returns : tie.Need-returns
-returns c = simp (guard_fails _ _ c.before.kind-lists.ensures c.if1.true)
+returns c = simp (guard_fails _ _ c.before.kind_lists_lem.ensures c.if1.true)
 
 laid-requires : tie.Need-laid-requires
 laid-requires c κs = search rules
@@ -19,7 +19,7 @@ returns-2 c = simp (guard_fails _ _ c.before.laid.ensures c.if2.true, and-false)
 returns-3 : tie.Need-returns-3
 returns-3 c =
     simp (
-      guard_holds _ _ c.before.before.before.before.before.kind-lists.ensures c.before.before.before.before.if1.false,
+      guard_holds _ _ c.before.before.before.before.before.kind_lists_lem.ensures c.before.before.before.before.if1.false,
       guard_holds _ _ c.before.before.before.laid.ensures c.before.before.if2.false,
       and-true,
     )

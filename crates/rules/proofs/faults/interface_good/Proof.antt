@@ -13,7 +13,7 @@ interface-fields-requires c κs = search rules
 
 returns : tie.Need-returns
 unfolding interface_good
-returns c = guard_no (interface_fields c.before.before.before.args.c c.before.before.before.args.r c.before.before.before.args.i) (entries_named c.before.before.before.args.s.now c.before.before.before.args.c c.before.before.before.args.i) _ c.before.interface-fields.ensures c.if1.true
+returns c = guard_no (interface_fields c.before.before.before.args.c c.before.before.before.args.r c.before.before.before.args.i) (entries_named c.before.before.before.args.s.now c.before.before.before.args.c c.before.before.before.args.i) _ c.before.interface_fields_lem.ensures c.if1.true
 
 cast-entries-named : tie.Need-overflow-cast-entries-named
 cast-entries-named c = search rules
@@ -27,7 +27,7 @@ add-entries-named c = search rules
 entries-named-requires : tie.Need-entries-named-requires
 entries-named-requires c κs =
     let start = c.before.before.before.before in
-    let fine = guard_holds (interface_fields start.args.c start.args.r start.args.i) _ c.before.before.interface-fields.ensures c.before.if1.false in (
+    let fine = guard_holds (interface_fields start.args.c start.args.r start.args.i) _ c.before.before.interface_fields_lem.ensures c.before.if1.false in (
       ap (λ (at : ℕ). at + 2 * start.args.i.list.first) start.requires.0,
       (
         omega (arith, start.requires.0, start.requires.1, interface-fits start.args.c start.args.r start.args.i fine),
@@ -38,7 +38,7 @@ entries-named-requires c κs =
 returns-2 : tie.Need-returns-2
 unfolding interface_good
 returns-2 c =
-    guard_go (interface_fields c.before.before.before.before.before.args.c c.before.before.before.before.before.args.r c.before.before.before.before.before.args.i) (entries_named c.before.before.before.before.before.args.s.now c.before.before.before.before.before.args.c c.before.before.before.before.before.args.i) _ _ c.before.before.before.interface-fields.ensures c.before.before.if1.false
+    guard_go (interface_fields c.before.before.before.before.before.args.c c.before.before.before.before.before.args.r c.before.before.before.before.before.args.i) (entries_named c.before.before.before.before.before.args.s.now c.before.before.before.before.before.args.c c.before.before.before.before.before.args.i) _ _ c.before.before.before.interface_fields_lem.ensures c.before.before.if1.false
     c.entries-named.ensures
 
 pub interface-good-spec : {M : Type 1} → statement M

@@ -11,7 +11,7 @@ flags-good-requires : tie.Need-flags-good-requires
 flags-good-requires c κs = search rules
 
 returns : tie.Need-returns
-returns c = ap₂ ◌&&◌ c.before.type-named.ensures c.flags-good.ensures
+returns c = ap₂ ◌&&◌ c.before.type-named.ensures c.flags_good_lem.ensures
 
 pub local-good-spec : {M : Type 1} → statement M
 local-good-spec = tie.close (tie.spec type-named-requires flags-good-requires returns)

@@ -21,7 +21,7 @@ header-has-requires : tie.Need-header-has-requires
 header-has-requires c κs = search rules
 
 returns-3 : tie.Need-returns-3
-returns-3 c = simp (guard_fails _ _ c.before.header-has.ensures c.if3.true, and-false)
+returns-3 c = simp (guard_fails _ _ c.before.header_has_lem.ensures c.if3.true, and-false)
 
 transfer-good-requires : tie.Need-transfer-good-requires
 transfer-good-requires c κs = search rules
@@ -33,7 +33,7 @@ returns-4 c =
     (ap₂ ◌&&◌
     (guard_holds _ _ c.before.before.before.before.before.before.names.ensures c.before.before.before.before.before.if1.false)
     (guard_holds _ _ c.before.before.before.before.or-none.ensures c.before.before.before.if2.false))
-    (guard_holds _ _ c.before.before.header-has.ensures c.before.if3.false))
+    (guard_holds _ _ c.before.before.header_has_lem.ensures c.before.if3.false))
     c.transfer-good.ensures
 
 pub stage-named-spec : {M : Type 1} → statement M

@@ -14,7 +14,7 @@ step-fields-requires : tie.Need-step-fields-requires
 step-fields-requires c κs = search rules
 
 returns-2 : tie.Need-returns-2
-returns-2 c = simp (c.step-fields.ensures, guard_holds _ _ c.before.before.laid.ensures c.before.if1.false, and-true)
+returns-2 c = simp (c.step_fields_lem.ensures, guard_holds _ _ c.before.before.laid.ensures c.before.if1.false, and-true)
 
 pub step-good-spec : {M : Type 1} → statement M
 step-good-spec = tie.close (tie.spec laid-requires returns step-fields-requires returns-2)

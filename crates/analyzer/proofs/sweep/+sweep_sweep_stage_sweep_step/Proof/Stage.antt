@@ -51,7 +51,7 @@ module _ (t : ℕ) where
         (
           s.requires.1.0,
           (
-            omega (arith, l.invariant.ends, c.before.loop-test.true, read.facts.steps-fit),
+            omega (arith, l.invariant.ends, c.before.loop-test.true, read.facts.steps_fit),
             walking_ready l.invariant c.before.loop-test.true (ready_as (stage-onward read) s.requires.1.1.1),
           ),
         ),

@@ -1,0 +1,15 @@
+use Rattle.std.proofs.Common.{[], ◌∷◌}
+use Rattle.effect.specs.declared.Effect.TheVariants.{ReadPass as RP, ReadBarrier as RB, ReadPassBarrier as RPB, ReadBarrierWrite as RBW, ReadPassBarrierWrite as RPBW}
+use Rattle.effect.specs.Effect.{read}
+use Rattle.effect.proofs.Flags.{listed, unlisted}
+use Rattle.effect.proofs.Effect.read.Goals as goal
+
+pub returns-in-ReadPass : goal.returns-in-ReadPass
+unfolding read
+returns-in-ReadPass c = listed (RP ∷ RB ∷ RPB ∷ RBW ∷ RPBW ∷ []) c.args.self c.in-ReadPass.is
+
+pub returns-in_default : goal.returns-in_default
+unfolding read
+returns-in_default c =
+    unlisted (RP ∷ RB ∷ RPB ∷ RBW ∷ RPBW ∷ []) c.args.self
+    (c.in_default.not-ReadPass, (c.in_default.not-ReadBarrier, (c.in_default.not-ReadPassBarrier, (c.in_default.not-ReadBarrierWrite, (c.in_default.not-ReadPassBarrierWrite, tt)))))

@@ -1,0 +1,7 @@
+use mathlib.Core.Path.{◌∙◌, ap}
+use Rattle.effect.specs.Effect.{barrier}
+use borrow.Author.Rules.{rules}
+use Rattle.effect.proofs.numbers.vine_effect_barrier.Goals as goal
+
+pub returns : goal.returns
+returns c = c.barrier.ensures ∙ ap barrier c.from_number.ensures

@@ -1,0 +1,9 @@
+use mathlib.Core.Path.{◌∙◌, ap, ap₂}
+use Rattle.effect.specs.Effect.{number_of, join}
+use borrow.Author.Rules.{rules}
+use Rattle.effect.proofs.numbers.vine_effect_join.Goals as goal
+
+pub returns : goal.returns
+returns c =
+    c.number.ensures
+    ∙ ap number_of (c.join.ensures ∙ ap₂ join c.from_number.ensures c.from_number-2.ensures)
