@@ -1,14 +1,18 @@
 // Answers many images in one run: frames on standard input, an answer each on standard output, until the input ends.
 //
 // A frame: u8 call (0 check), u32 span, u32 length, then that many bytes. An answer: u32 code, u32 place, u32 n (for check the kind),
-// then n bytes where there are any. Little-endian.
+// then n bytes where there are any. Little-endian. A failed read or write ends the run with its error.
+#![tactic(auto)]
+
 ghost use Rattle.std.specs.Prelude.{◌≡◌, ◌≤◌, ◌<◌, length};
+ghost use Rattle.std.specs.Io.{ReadsAtMost};
 
 use image::answer::Answer;
 use image::check::check_long;
-use libc::{STDERR_FILENO, STDIN_FILENO, STDOUT_FILENO};
 use ownership::vine_check;
 use records::bytes::u32_at;
+use std::io;
+use std::io::{Read, Write};
 
 // How reading a frame ended.
 #[derive(Drop)]
@@ -25,7 +29,8 @@ fn byte(v: u32, weight: u32) -> u8
     (v / weight % 256) as u8
 }
 
-fn write_answer(a: Answer) -> Frame {
+// An answer is flushed at once, for a caller that waits for it before its next frame.
+fn write_answer<W: Write>(output: &mut W, a: Answer) -> io::Result<Frame> {
     let out = [
         byte(a.code, 1),
         byte(a.code, 256),
@@ -40,102 +45,145 @@ fn write_answer(a: Answer) -> Frame {
         byte(a.kind, 65536),
         byte(a.kind, 16777216),
     ];
-    if io::write_all(STDOUT_FILENO, &out) {
-        Frame::Answered
-    } else {
-        Frame::Ended
+    output.write_all(&out)?;
+    output.flush()?;
+    Ok(Frame::Answered)
+}
+
+// Reads until the buffer is full or the input ends, and returns how many bytes it put at the start of the buffer.
+fn read_full<R: Read>(input: &mut R, buffer: &mut [u8]) -> io::Result<usize>
+    ensures { ReadsAtMost result buffer.new }
+{
+    let mut done = 0;
+    while done < buffer.len() {
+        let got = input.read(&mut buffer[done..])?;
+        if got == 0 {
+            break;
+        }
+        done += got;
     }
+    Ok(done)
 }
 
 // Reads past so many bytes; whether they were there.
-fn skip(left: usize, buffer: &mut [u8]) -> bool
+fn skip<R: Read>(input: &mut R, left: usize, buffer: &mut [u8]) -> io::Result<bool>
     requires { length buffer.old ≡ 63893 }
 {
     let mut rest = left;
     while 63893 < rest {
-        if io::read_full(STDIN_FILENO, buffer) != 63893 {
-            return false;
+        if read_full(input, buffer)? != 63893 {
+            return Ok(false);
         }
         rest -= 63893;
     }
-    io::read_full(STDIN_FILENO, &mut buffer[..rest]) == rest
+    Ok(read_full(input, &mut buffer[..rest])? == rest)
 }
 
 // An image longer than any accepted one is answered by its first bytes; the rest is read past.
-fn answer_long(size: usize, buffer: &mut [u8]) -> Frame
+fn answer_long<R: Read, W: Write>(
+    input: &mut R,
+    output: &mut W,
+    size: usize,
+    buffer: &mut [u8],
+) -> io::Result<Frame>
     requires buffer_len { length buffer.old ≡ 63893 }
     requires lt_size { 63893 < size }
 {
     let mut head = [0u8; 21];
-    if io::read_full(STDIN_FILENO, &mut head) != 21 {
-        return Frame::Short;
+    if read_full(input, &mut head)? != 21 {
+        return Ok(Frame::Short);
     }
-    if !skip(size - 21, buffer) {
-        return Frame::Short;
+    if !skip(input, size - 21, buffer)? {
+        return Ok(Frame::Short);
     }
-    write_answer(check_long(&head))
+    write_answer(output, check_long(&head))
 }
 
-fn answer_short(size: usize, buffer: &mut [u8]) -> Frame
+fn answer_short<R: Read, W: Write>(
+    input: &mut R,
+    output: &mut W,
+    size: usize,
+    buffer: &mut [u8],
+) -> io::Result<Frame>
     requires buffer_len { length buffer.old ≡ 63893 }
     requires size_bound { size ≤ 63893 }
 {
-    if io::read_full(STDIN_FILENO, &mut buffer[..size]) != size {
-        return Frame::Short;
+    if read_full(input, &mut buffer[..size])? != size {
+        return Ok(Frame::Short);
     }
-    write_answer(vine_check(&buffer[..size]))
+    write_answer(output, vine_check(&buffer[..size]))
 }
 
-fn answer_frame(buffer: &mut [u8]) -> Frame
+fn answer_frame<R: Read, W: Write>(
+    input: &mut R,
+    output: &mut W,
+    buffer: &mut [u8],
+) -> io::Result<Frame>
     requires { length buffer.old ≡ 63893 }
 {
     let mut head = [0u8; 9];
-    let got = io::read_full(STDIN_FILENO, &mut head);
+    let got = read_full(input, &mut head)?;
     if got == 0 {
-        return Frame::Ended;
+        return Ok(Frame::Ended);
     }
     if got != 9 {
-        return Frame::Short;
+        return Ok(Frame::Short);
     }
     if head[0] != 0 {
-        return Frame::Unknown;
+        return Ok(Frame::Unknown);
     }
     let size = u32_at(&head, 5) as usize;
     if 63893 < size {
-        return answer_long(size, buffer);
+        return answer_long(input, output, size, buffer);
     }
-    answer_short(size, buffer)
+    answer_short(input, output, size, buffer)
 }
 
 // Whether to go on; a frame that cannot be answered is said in a line.
-fn answered(buffer: &mut [u8]) -> bool
+fn answered<R: Read, W: Write, E: Write>(
+    input: &mut R,
+    output: &mut W,
+    errors: &mut E,
+    buffer: &mut [u8],
+) -> io::Result<bool>
     requires { length buffer.old ≡ 63893 }
 {
-    match answer_frame(buffer) {
-        Frame::Answered => true,
-        Frame::Ended => false,
+    match answer_frame(input, output, buffer)? {
+        Frame::Answered => Ok(true),
+        Frame::Ended => Ok(false),
         Frame::Short => {
-            io::write_all(STDERR_FILENO, b"batch: a frame is cut short\n");
-            false
+            errors.write_all(b"batch: a frame is cut short\n")?;
+            Ok(false)
         }
         Frame::Unknown => {
-            io::write_all(STDERR_FILENO, b"batch: an unknown call\n");
-            false
+            errors.write_all(b"batch: an unknown call\n")?;
+            Ok(false)
         }
     }
 }
 
-fn answer_all(buffer: &mut [u8])
+fn answer_all<R: Read, W: Write, E: Write>(
+    input: &mut R,
+    output: &mut W,
+    errors: &mut E,
+    buffer: &mut [u8],
+) -> io::Result<()>
     requires { length buffer.old ≡ 63893 }
 {
     // a proved loop has to end; no run has so many frames
     let mut left = u64::MAX;
-    while left > 0 && answered(buffer) {
+    while left > 0 && answered(input, output, errors, buffer)? {
         left -= 1;
     }
+    Ok(())
 }
 
-fn main() {
+fn main(rt: HostRuntime) -> io::Result<()> {
     let mut buffer = [0u8; 63893];
-    answer_all(&mut buffer);
+    answer_all(
+        &mut rt.stdin(),
+        &mut rt.stdout(),
+        &mut rt.stderr(),
+        &mut buffer,
+    )
 }

@@ -1,5 +1,5 @@
 // How many variables, relations, touches and disconnects were made.
-#[derive(Drop)]
+#[derive(Clone, Copy)]
 pub struct Built {
     pub vars: u16,
     pub relations: u16,

@@ -75,7 +75,7 @@ pub fn entered_once(s: &[u8], c: Counts, counts: &[u8; 256]) -> bool
 }
 
 // What the Diverges so far came to, and a layer that theirs is or lies in: the last that one of them named.
-#[derive(Drop)]
+#[derive(Clone, Copy)]
 struct Around {
     ok: bool,
     known: u16,
@@ -106,7 +106,7 @@ fn diverge_step(s: &[u8], c: Counts, l: u16, k: usize, p: usize, ok: bool, known
 }
 
 // What the Transfers and the Diverges so far came to.
-#[derive(Drop)]
+#[derive(Clone, Copy)]
 pub struct Jumps {
     pub entered: bool,
     pub out: bool,

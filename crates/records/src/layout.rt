@@ -25,7 +25,7 @@ pub const PORT: usize = 9;
 
 pub const REF: usize = 2;
 
-#[derive(Drop)]
+#[derive(Clone, Copy)]
 pub struct Counts {
     pub layers: u16,
     pub interfaces: u16,
@@ -38,7 +38,7 @@ pub struct Counts {
 }
 
 // The sections whose entries are judged one by one, in the order of the file. Refs follow.
-#[derive(Drop)]
+#[derive(Clone, Copy)]
 pub enum Section {
     Layers,
     Interfaces,

@@ -5,19 +5,19 @@ ghost use Rattle.records.specs.Records.{run_at, layer_at, interface_at, stage_at
 use crate::bytes::{u16_at, u32_at};
 use vir::ids::{InterfaceId, LayerId, Span, Type};
 
-#[derive(Drop)]
+#[derive(Clone, Copy)]
 pub struct Run {
     pub first: u16,
     pub count: u16,
 }
 
-#[derive(Drop)]
+#[derive(Clone, Copy)]
 pub struct LayerRecord {
     pub parent: LayerId,
     pub stages: Run,
 }
 
-#[derive(Drop)]
+#[derive(Clone, Copy)]
 pub struct InterfaceRecord {
     pub layer: LayerId,
     pub kind: u8,
@@ -25,7 +25,7 @@ pub struct InterfaceRecord {
     pub list: Run,
 }
 
-#[derive(Drop)]
+#[derive(Clone, Copy)]
 pub struct StageRecord {
     pub span: Span,
     pub interface: InterfaceId,
@@ -40,21 +40,21 @@ pub struct StageRecord {
     pub payload: u8,
 }
 
-#[derive(Drop)]
+#[derive(Clone, Copy)]
 pub struct LocalRecord {
     pub span: Span,
     pub ty: Type,
     pub flags: u8,
 }
 
-#[derive(Drop)]
+#[derive(Clone, Copy)]
 pub struct TypeRecord {
     pub upright: u8,
     pub inverted: u8,
 }
 
 // A step's fields; which step they are, `Step::from_fields` says.
-#[derive(Drop)]
+#[derive(Clone, Copy)]
 pub struct StepRecord {
     pub tag: u8,
     pub a: u32,
@@ -62,7 +62,7 @@ pub struct StepRecord {
     pub ports: Run,
 }
 
-#[derive(Drop)]
+#[derive(Clone, Copy)]
 pub struct PortRecord {
     pub ty: Type,
     pub kind: u8,

@@ -1,5 +1,5 @@
 // What the judging of records carries along and answers: machine words, since numbers of 16 bits would be packed and unpacked at each record.
-#[derive(Drop)]
+#[derive(Clone, Copy)]
 pub struct Running {
     pub refs: usize,
     pub steps: usize,
@@ -7,14 +7,14 @@ pub struct Running {
 }
 
 // A record breaks a rule, or this is where the next lists start.
-#[derive(Drop)]
+#[derive(Clone, Copy)]
 pub enum Judged {
     Fault,
     Next(Running),
 }
 
 // The first record at fault stands at a place, or there is none.
-#[derive(Drop)]
+#[derive(Clone, Copy)]
 pub enum Walked {
     At(u32),
     Clean(Running),

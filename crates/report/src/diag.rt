@@ -11,7 +11,7 @@ use vir::ids::{Local, Span, Type};
 pub const MOST: u32 = 1024;
 
 // Kind: 1 InfiniteLoop, 2 CannotDrop, 3 UninitializedVariable, 4 CannotFork, 5 ValueLaterUsedHere.
-#[derive(Drop)]
+#[derive(Clone, Copy)]
 pub struct Diag {
     pub kind: u8,
     pub span: Span,

@@ -1,7 +1,7 @@
 // What report_errors has as Option<Option<Span>>: who takes a value, going from its last use to its first.
 use crate::ids::Span;
 
-#[derive(Drop)]
+#[derive(Clone, Copy)]
 pub enum Consumer {
     // nobody
     Missing,

@@ -3,7 +3,7 @@ ghost use Rattle.vir.specs.Header.{header_of, header_ports};
 
 use crate::arity::Arity;
 
-#[derive(Drop)]
+#[derive(Clone, Copy)]
 pub enum Header {
     Bare,
     Const,
@@ -15,7 +15,7 @@ pub enum Header {
     Entry,
 }
 
-#[derive(Drop)]
+#[derive(Clone, Copy)]
 pub enum FoundHeader {
     Header(Header),
     Nothing,

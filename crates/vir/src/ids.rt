@@ -2,35 +2,35 @@
 ghost use Rattle.std.specs.Prelude.{◌≡◌};
 ghost use Rattle.vir.specs.Ids.{layer_id_of, inverse, is_inverse, idx};
 
-#[derive(Drop)]
+#[derive(Clone, Copy)]
 pub struct LayerId(pub u16);
 
-#[derive(Drop)]
+#[derive(Clone, Copy)]
 pub struct StageId(pub u16);
 
-#[derive(Drop)]
+#[derive(Clone, Copy)]
 pub struct InterfaceId(pub u16);
 
-#[derive(Drop)]
+#[derive(Clone, Copy)]
 pub struct WireId(pub u16);
 
-#[derive(Drop)]
+#[derive(Clone, Copy)]
 pub struct Local(pub u16);
 
-#[derive(Drop)]
+#[derive(Clone, Copy)]
 pub struct EffectVar(pub u16);
 
-#[derive(Drop)]
+#[derive(Clone, Copy)]
 pub struct RelationId(pub u16);
 
-#[derive(Drop)]
+#[derive(Clone, Copy)]
 pub struct TypeIdx(pub u16);
 
-#[derive(Drop)]
+#[derive(Clone, Copy)]
 pub struct Span(pub u32);
 
 // A type's number, with bit 15 for the inverse.
-#[derive(Drop)]
+#[derive(Clone, Copy)]
 pub struct Type(pub u16);
 
 impl LayerId {

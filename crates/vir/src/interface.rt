@@ -3,7 +3,7 @@ ghost use Rattle.vir.specs.Interface.{kind_of, entries_of};
 
 use crate::arity::Arity;
 
-#[derive(Drop)]
+#[derive(Clone, Copy)]
 pub enum InterfaceKind {
     Unconditional,
     Branch,
@@ -12,7 +12,7 @@ pub enum InterfaceKind {
     Inspect,
 }
 
-#[derive(Drop)]
+#[derive(Clone, Copy)]
 pub enum FoundKind {
     Kind(InterfaceKind),
     Nothing,

@@ -4,7 +4,7 @@ ghost use Rattle.vir.specs.Port.{port_of};
 use crate::ids::{Span, WireId};
 
 // What stands at a port. All but a wire carry a number that nothing here reads.
-#[derive(Drop)]
+#[derive(Clone, Copy)]
 pub enum PortKind {
     Nil(u32),
     Bool(u32),
@@ -16,7 +16,7 @@ pub enum PortKind {
     Error(u32),
 }
 
-#[derive(Drop)]
+#[derive(Clone, Copy)]
 pub enum FoundPort {
     Port(PortKind),
     Nothing,

@@ -6,14 +6,14 @@ use crate::ids::{InterfaceId, LayerId, Local, Span};
 use crate::invocation::Invocation;
 
 // The transfer of a Diverge, which may have none.
-#[derive(Drop)]
+#[derive(Clone, Copy)]
 pub enum Onward {
     To(InterfaceId),
     Nowhere,
 }
 
 // A step without its ports. From Link on it carries a key that nothing here reads.
-#[derive(Drop)]
+#[derive(Clone, Copy)]
 pub enum Step {
     Invoke(Span, Local, Invocation),
     Transfer(InterfaceId),
@@ -33,7 +33,7 @@ pub enum Step {
     BoolAnd(u32),
 }
 
-#[derive(Drop)]
+#[derive(Clone, Copy)]
 pub enum FoundStep {
     Step(Step),
     Nothing,

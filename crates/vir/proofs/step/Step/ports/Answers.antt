@@ -1,0 +1,7 @@
+use mathlib.Core.Path.{◌∙◌, sym, ap}
+use Rattle.vir.specs.Step.{step_ports}
+use borrow.Author.Rules.{rules}
+use Rattle.vir.proofs.step.Step.ports.Goals as goal
+
+pub returns-in-Invoke : goal.returns-in-Invoke
+returns-in-Invoke c = c.ports.ensures ∙ sym (ap step_ports c.in-Invoke.is)
