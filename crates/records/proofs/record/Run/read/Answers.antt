@@ -1,0 +1,5 @@
+use borrow.Author.Rules.{rules}
+use Rattle.records.proofs.record.Run.read.Goals as goal
+
+pub returns : goal.returns
+returns c = simp (c.u16_at-2.ensures, c.u16_at.ensures)
