@@ -1,2 +1,4 @@
 // Whether each record of an image keeps its rule.
+#![tactic(auto)]
+
 pub mod faults;

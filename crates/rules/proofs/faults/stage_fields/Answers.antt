@@ -1,0 +1,9 @@
+use Rattle.records.proofs.Guards.{guard_fails, guard_holds}
+use borrow.Author.Rules.{rules}
+use Rattle.rules.proofs.faults.stage_fields.Goals as goal
+
+pub returns-then-not-stage_named : goal.returns-then-not-stage_named
+returns-then-not-stage_named c = simp (guard_fails _ _ c.stage_named.ensures c.if-not-stage_named.true)
+
+pub returns : goal.returns
+returns c = simp (c.stage_lists.ensures, guard_holds _ _ c.stage_named.ensures c.if-not-stage_named.false)

@@ -1,0 +1,7 @@
+use mathlib.Core.Path.{ap₂}
+use mathlib.Core.Bool.{◌&&◌}
+use borrow.Author.Rules.{rules}
+use Rattle.rules.proofs.faults.type_good.Goals as goal
+
+pub returns : goal.returns
+returns c = ap₂ ◌&&◌ c.flags_good.ensures c.flags_good-2.ensures
