@@ -1,4 +1,6 @@
 // The image of document 01 as a value, its kind, its layer rules, and the answer for each code.
+#![tactic(auto)]
+
 pub mod answer;
 pub mod check;
 pub mod entering;

@@ -1,0 +1,22 @@
+use mathlib.Core.Path.{◌∙◌, sym, ap}
+use borrow.Author.Tests.{not-true, not-false}
+use Rattle.records.specs.Layout.{within}
+use Rattle.image.proofs.Heads.{long_unmarked, long_count, long-length}
+use borrow.Author.Rules.{rules}
+use Rattle.image.proofs.check.check_long.Goals as goal
+
+pub returns-then-not-marked : goal.returns-then-not-marked
+returns-then-not-marked c =
+    λ s e l. c.refused.ensures ∙ long_unmarked s c.args.head.now e l (sym c.marked.ensures ∙ c.if-not-marked.true)
+
+pub returns-then-not-within : goal.returns-then-not-within
+returns-then-not-within c =
+    λ s e l. c.refused-then-not-within.ensures
+    ∙ long_count s c.args.head.now e l (sym c.marked.ensures ∙ c.if-not-marked.false)
+    (sym (c.within.ensures ∙ ap within c.read.ensures) ∙ c.if-not-within.true)
+
+pub returns : goal.returns
+returns c =
+    λ s e l. c.refused-2.ensures
+    ∙ long-length s c.args.head.now e l (sym c.marked.ensures ∙ c.if-not-marked.false)
+    (sym (c.within.ensures ∙ ap within c.read.ensures) ∙ c.if-not-within.false)

@@ -1,0 +1,29 @@
+use mathlib.Core.Path.{◌≡◌, ◌∙◌, sym, ap}
+use mathlib.Core.Bool.{Bool, true, false}
+use mathlib.Core.List.{List}
+use Prim.Native.Nat.{ℕ, ◌+◌, ◌*◌, ◌-◌, ◌≤◌, ◌<◌}
+use native.Mathlib.Omega.{arith}
+use lib.Dec.{ltb}
+use lib.ListN.{length}
+use borrow.Author.Rules.{rules}
+use borrow.Author.Tests.{lt-ltb, le-ltb}
+use Rattle.records.specs.declared.layout.Counts.{Counts}
+use Rattle.records.specs.Bytes.{u16_at}
+use Rattle.records.specs.Every.{every}
+use Rattle.records.specs.Layout.{interfaces_at}
+use Rattle.image.specs.View.{view_of}
+use Rattle.image.specs.Vir.{interface_of}
+use Rattle.records.proofs.Every.{every-zero, every-on, every_stop, every_end}
+use Rattle.image.proofs.Fields.{lies_at}
+use Rattle.image.proofs.Viewing.{length-layers, length-interfaces}
+use Rattle.image.proofs.layer_rules.interfaces_lie.Given as goal
+
+-- the test of an interface
+abbrev pub lies : List ℕ → Counts → ℕ → Bool
+lies s c i = ltb (interface_of (view_of s c) i).layer (length (view_of s c).layers)
+
+abbrev pub invariant-loop-i : goal.invariant-loop-i
+invariant-loop-i l = (l.i ≤ l.c.interfaces) × (l.p ≡ interfaces_at l.c + 9 * l.i) × (every l.i (lies l.s l.c) ≡ true)
+
+abbrev pub decreases-loop-i : goal.decreases-loop-i
+decreases-loop-i l = l.c.interfaces - l.i
