@@ -1,1 +1,2 @@
 // normalizer.rs. For now its definitions, in specs/.
+#![tactic(auto)]
