@@ -1,4 +1,6 @@
 // analyzer.rs: `local_declarations`. The Rust gathers the stages that declare each local; here a stage is asked when it is come by.
+#![tactic(auto)]
+
 ghost use Rattle.std.specs.Prelude.{◌≡◌, ◌<◌, ◌≤◌, length, take};
 ghost use Rattle.image.specs.View.{view};
 ghost use Rattle.image.specs.Vir.{stage_of};

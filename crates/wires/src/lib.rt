@@ -1,4 +1,6 @@
 // analyzer.rs: `set_wires`, what crosses each interface for one local. A wire is the half byte that a report has for it.
+#![tactic(auto)]
+
 ghost use Rattle.std.specs.Prelude.{◌≡◌, true, ◌+◌, ◌*◌, ◌<◌, ◌≤◌, length, get_or};
 ghost use Rattle.effect.specs.declared.Effect.TheVariants.{Pass, Never};
 ghost use Rattle.report.specs.Report.{bit, half};

@@ -1,0 +1,15 @@
+use mathlib.Core.Path.{sym}
+use Prim.Native.Nat.{◌-◌}
+use native.Mathlib.Omega.{arith}
+use borrow.Author.Rules.{rules}
+use Rattle.image.specs.View.{view}
+use Rattle.building.specs.Fill.{exchange_at}
+use Rattle.building.specs.Tables.{disconnect_row}
+use Rattle.building.proofs.Filling.{within_as, Rowing, rowing_start, rowing_on, rowing_end}
+use Rattle.building.proofs.fill.exchange_all.Given as goal
+
+abbrev pub invariant-loop-k : goal.invariant-loop-k
+invariant-loop-k l = Rowing (exchange_at (view l.s) l.l.0) (disconnect_row l.disconnects) l.count l.initial.effects l.effects l.k
+
+abbrev pub decreases-loop-k : goal.decreases-loop-k
+decreases-loop-k l = l.count - l.k

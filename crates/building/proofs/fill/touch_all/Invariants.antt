@@ -1,0 +1,13 @@
+use Prim.Native.Nat.{◌-◌}
+use native.Mathlib.Omega.{arith}
+use borrow.Author.Rules.{rules}
+use Rattle.building.specs.Fill.{join_touch}
+use Rattle.building.specs.Tables.{touch_row}
+use Rattle.building.proofs.Filling.{Rowing, rowing_start, rowing_on, rowing_end}
+use Rattle.building.proofs.fill.touch_all.Given as goal
+
+abbrev pub invariant-loop-k : goal.invariant-loop-k
+invariant-loop-k l = Rowing (join_touch l.inv l.l.0) (touch_row l.touches) l.count l.initial.effects l.effects l.k
+
+abbrev pub decreases-loop-k : goal.decreases-loop-k
+decreases-loop-k l = l.count - l.k
