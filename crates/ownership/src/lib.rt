@@ -1,4 +1,6 @@
 // The calls of document 01, for programs in other languages. Nothing is demanded of a caller.
+#![tactic(auto)]
+
 ghost use Rattle.ownership.specs.Promises.{Checked};
 
 use image::answer::Answer;
