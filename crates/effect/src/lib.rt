@@ -4,7 +4,7 @@
 ghost use Rattle.std.specs.Prelude.{◌≡◌};
 ghost use Rattle.effect.specs.Effect.{number_of, effect_of, join, union, read, pass, barrier, write};
 
-mod numbers;
+pub mod numbers;
 
 #[derive(Clone, Copy)]
 pub enum Effect {

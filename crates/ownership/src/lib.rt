@@ -1,4 +1,4 @@
-// The calls of document 01, for programs in other languages. Nothing is demanded of a caller.
+// The calls of document 01; the crate ownership_c exports them to programs in other languages. Nothing is demanded of a caller.
 #![tactic(auto)]
 
 ghost use Rattle.ownership.specs.Promises.{Checked};
@@ -6,9 +6,7 @@ ghost use Rattle.ownership.specs.Promises.{Checked};
 use image::answer::Answer;
 use image::check::check;
 
-// A slice passes as a pointer and a length.
-#[unsafe(no_mangle)]
-pub extern "C" fn vine_check(bytes: &[u8]) -> Answer
+pub fn vine_check(bytes: &[u8]) -> Answer
     ensures { Checked bytes.now result }
 {
     check(bytes)
