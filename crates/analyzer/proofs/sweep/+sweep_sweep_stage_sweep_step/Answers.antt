@@ -12,13 +12,13 @@ use Rattle.analyzer.proofs.sweep.+sweep_sweep_stage_sweep_step.Goals as goal
 pub sweep-overflow_add-incoming : goal.sweep-overflow_add-incoming
 sweep-overflow_add-incoming t c = omega (arith, at_most c.args.incoming.now c.args.i.0, c.requires.ready.room)
 
-pub sweep-returns-then-met-ne0 : goal.sweep-returns-then-met-ne0
-sweep-returns-then-met-ne0 t c = come_again c.args.i.0 c.if-met-ne0.true
+pub sweep-returns-then-again : goal.sweep-returns-then-again
+sweep-returns-then-again t c = come_again c.args.i.0 c.if-again.true
 
 pub sweep-sweep_stage-requires : goal.sweep-sweep_stage-requires
 sweep-sweep_stage-requires t c =
     let l = c.loop-left in
-    let new : get_or c.args.incoming.now c.args.i.0 0 ≡ 0 = c.if-met-ne0.false in
+    let new : get_or c.args.incoming.now c.args.i.0 0 ≡ 0 = c.if-again.false in
     let below : c.args.i.0 < length c.args.incoming.now = omega (arith, c.requires.ready, c.requires.i_lt_interfaces) in
     let read = c.stages-list.ensures in
     let on = listed-onward c.requires.image read in
@@ -45,7 +45,7 @@ pub sweep-returns : goal.sweep-returns
 sweep-returns t c =
     let below : c.args.i.0 < length c.args.incoming.now = omega (arith, c.requires.ready, c.requires.i_lt_interfaces) in
     let read = c.stages-list.ensures in
-    come_first (view c.args.s.now) c.args.i.0 below c.if-met-ne0.false (listed-onward c.requires.image read) (onward-long c.requires.image read)
+    come_first (view c.args.s.now) c.args.i.0 below c.if-again.false (listed-onward c.requires.image read) (onward-long c.requires.image read)
     (c.requires.ready.sized ∙ sym (interfaces-many c.requires.image))
     (walking_end c.loop-left.invariant c.loop-left-test.false)
 
@@ -75,16 +75,16 @@ pub sweep_stage-returns : goal.sweep_stage-returns
 sweep_stage-returns t c =
     sweeping_as (sym (stage-onward c.stage-record.ensures)) (walking_end c.loop-left.invariant c.loop-left-test.false)
 
-pub sweep_step-returns-then-record-ne6 : goal.sweep_step-returns-then-record-ne6
-sweep_step-returns-then-record-ne6 t c = sweeping_as (sym (step_nowhere c.step-record.ensures c.if-record-ne6.true)) sweeping_start
+pub sweep_step-returns-then-stays : goal.sweep_step-returns-then-stays
+sweep_step-returns-then-stays t c = sweeping_as (sym (step_nowhere c.step-record.ensures c.if-stays.true)) sweeping_start
 
 pub sweep_step-sweep-requires : goal.sweep_step-sweep-requires
 sweep_step-sweep-requires t c =
     let read = c.step-record.ensures in
-    let jumps = c.if-record-ne6.false in (
+    let jumps = c.if-stays.false in (
       omega (arith, c.decreases),
       (c.requires.image, (read.facts.interface jumps, ready_as (step-onward read jumps) c.requires.ready)),
     )
 
 pub sweep_step-returns : goal.sweep_step-returns
-sweep_step-returns t c = sweeping_as (sym (step-onward c.step-record.ensures c.if-record-ne6.false)) c.sweep.ensures
+sweep_step-returns t c = sweeping_as (sym (step-onward c.step-record.ensures c.if-stays.false)) c.sweep.ensures
