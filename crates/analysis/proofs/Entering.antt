@@ -1,12 +1,12 @@
 -- A table of starts may be longer than there are variables.
-use mathlib.Core.Path.{◌≡◌, ◌∙◌, sym, ap, ap₂, subst}
+use mathlib.Core.Path.{◌≡◌, ◌∙◌, ap₂}
 use mathlib.Core.List.{List, ◌++◌, map}
-use Prim.Native.Nat.{ℕ, ◌+◌, ◌<◌, ◌≤◌}
+use Prim.Native.Nat.{ℕ, ◌+◌, ◌<◌}
 use native.Mathlib.Omega.{arith}
 use lib.ListN.{length, get_or, length-append, get_or-append}
 use lib.Seq.{slice}
 use Rattle.solve.specs.FixedPoint.{Relation}
-use Rattle.solve.specs.Tables.{entries_of, relation_of, EnteredAt, Entered}
+use Rattle.solve.specs.Tables.{relation_of, EnteredAt, Entered}
 
 pub entered_longer : {rs : List Relation} {n : ℕ} {t st en : List ℕ} (more : List ℕ) → Entered rs n t st en → Entered rs n t (st ++ more) en
 entered_longer {rs} {n} {t} {st} {en} more e =

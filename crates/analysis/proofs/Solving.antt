@@ -10,7 +10,7 @@ use Rattle.effect.specs.declared.Effect.{Effect}
 use Rattle.records.specs.declared.layout.Counts.{Counts}
 use Rattle.image.specs.Vir.{Vir}
 use Rattle.solve.specs.declared.Solved.{Solved}
-use Rattle.solve.specs.FixedPoint.{Relation, State, fixed_point}
+use Rattle.solve.specs.FixedPoint.{Relation, fixed_point}
 use Rattle.solve.specs.Tables.{relations_of, effects_of, end_of, Entered}
 use Rattle.analyzer.specs.Demand.{network_of}
 use Rattle.building.specs.declared.built.Built.{Built}

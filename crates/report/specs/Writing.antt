@@ -1,5 +1,5 @@
 -- What the code that writes a report leaves in an output, part by part: bytes that stand at their place, and all others as they were.
-use Rattle.std.specs.Prelude.{◌≡◌, List, [], ◌∷◌, ◌++◌, ℕ, ◌+◌, ◌*◌, ◌≤◌, ◌<◌, min, length, get_or, take}
+use Rattle.std.specs.Prelude.{◌≡◌, List, [], ◌∷◌, ◌++◌, ℕ, ◌+◌, ◌*◌, ◌≤◌, ◌<◌, length, get_or, take}
 use Rattle.records.specs.Bytes.{u8_at}
 use Rattle.image.specs.Kind.{concat}
 use Rattle.image.specs.Stands.{Stands}

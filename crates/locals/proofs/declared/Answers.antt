@@ -1,10 +1,9 @@
-use Prim.Native.Nat.{◌-◌, ◌<◌}
+use Prim.Native.Nat.{◌<◌}
 use native.Mathlib.Omega.{arith}
-use borrow.Author.Rules.{rules}
-use lib.ListN.{length, take}
+use lib.ListN.{length}
 use Rattle.image.specs.View.{view}
 use Rattle.reading.proofs.Reading.{stages-many}
-use Rattle.locals.proofs.Searching.{Seeking, seeking_start, seeking_on, seeking_found, seeking_end}
+use Rattle.locals.proofs.Searching.{seeking_start, seeking_on, seeking_found, seeking_end}
 use Rattle.locals.proofs.declared.Goals as goal
 
 -- the stage that is asked is one of the image's

@@ -1,10 +1,7 @@
-use Prim.Native.Nat.{◌-◌, ◌<◌}
-use native.Mathlib.Omega.{arith}
-use borrow.Author.Rules.{rules}
-use lib.ListN.{length, take}
+use Prim.Native.Nat.{◌-◌}
+use lib.ListN.{take}
 use Rattle.image.specs.View.{view}
-use Rattle.reading.proofs.Reading.{stages-many}
-use Rattle.locals.proofs.Searching.{Seeking, seeking_start, seeking_on, seeking_found, seeking_end}
+use Rattle.locals.proofs.Searching.{Seeking}
 use Rattle.locals.proofs.declared.Given as goal
 
 abbrev pub invariant-loop-t : goal.invariant-loop-t

@@ -1,4 +1,3 @@
-use borrow.Author.Rules.{rules}
 use Rattle.locals.proofs.Searching.{not_come_to, come_to}
 use Rattle.locals.proofs.declared_in.Goals as goal
 

@@ -1,7 +1,5 @@
 use native.Mathlib.Omega.{arith}
-use borrow.Author.Rules.{rules}
-use Rattle.reading.specs.Read.{ref_nth}
-use Rattle.locals.proofs.Searching.{Searching, searching_start, searching_on, searching_found, searching_end, declared_as}
+use Rattle.locals.proofs.Searching.{searching_start, searching_on, searching_found, searching_end, declared_as}
 use Rattle.locals.proofs.declares.Goals as goal
 
 pub loop-left-init : goal.loop-left-init

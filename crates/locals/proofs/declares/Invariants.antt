@@ -1,7 +1,5 @@
-use native.Mathlib.Omega.{arith}
-use borrow.Author.Rules.{rules}
 use Rattle.reading.specs.Read.{ref_nth}
-use Rattle.locals.proofs.Searching.{Searching, searching_start, searching_on, searching_found, searching_end, declared_as}
+use Rattle.locals.proofs.Searching.{Searching}
 use Rattle.locals.proofs.declares.Given as goal
 
 abbrev pub invariant-loop-left : goal.invariant-loop-left

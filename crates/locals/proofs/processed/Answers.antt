@@ -1,6 +1,5 @@
 use mathlib.Core.Path.{sym, ap, ap₂}
 use mathlib.Core.Bool.{not, ◌&&◌}
-use borrow.Author.Rules.{rules}
 use Rattle.vir.specs.Flags.{self_inverse}
 use Rattle.image.specs.Vir.{Local}
 use Rattle.locals.proofs.processed.Goals as goal

@@ -1,5 +1,4 @@
 use mathlib.Core.Path.{◌∙◌, sym, ap}
-use borrow.Author.Rules.{rules}
 use Rattle.image.specs.View.{step_in}
 use Rattle.image.specs.Vir.{Action}
 use Rattle.reading.proofs.action.Goals as goal

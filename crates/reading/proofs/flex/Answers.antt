@@ -1,4 +1,3 @@
-use borrow.Author.Rules.{rules}
 use Rattle.reading.proofs.Reading.{type-read}
 use Rattle.reading.proofs.flex.Goals as goal
 

@@ -1,4 +1,3 @@
-use borrow.Author.Rules.{rules}
 use Rattle.reading.proofs.Reading.{interface-read}
 use Rattle.reading.proofs.interface.Goals as goal
 

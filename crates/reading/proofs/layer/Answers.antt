@@ -1,4 +1,3 @@
-use borrow.Author.Rules.{rules}
 use mathlib.Core.Path.{refl}
 use Rattle.reading.proofs.Reading.{layer-read}
 use Rattle.reading.proofs.layer.Goals as goal

@@ -1,4 +1,3 @@
-use borrow.Author.Rules.{rules}
 use Rattle.reading.proofs.Reading.{local-read}
 use Rattle.reading.proofs.local.Goals as goal
 

@@ -1,4 +1,3 @@
-use borrow.Author.Rules.{rules}
 use Rattle.reading.proofs.Reading.{port_read}
 use Rattle.reading.proofs.port.Goals as goal
 

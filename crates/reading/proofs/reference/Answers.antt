@@ -1,7 +1,6 @@
 use mathlib.Core.Path.{◌∙◌, ap}
 use Prim.Native.Nat.{ℕ, ◌+◌, ◌*◌}
 use Rattle.records.specs.Bytes.{u16_at}
-use borrow.Author.Rules.{rules}
 use Rattle.reading.proofs.reference.Goals as goal
 
 pub returns : goal.returns

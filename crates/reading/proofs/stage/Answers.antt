@@ -1,4 +1,3 @@
-use borrow.Author.Rules.{rules}
 use Rattle.reading.proofs.Reading.{stage-read}
 use Rattle.reading.proofs.stage.Goals as goal
 

@@ -1,4 +1,3 @@
-use borrow.Author.Rules.{rules}
 use Rattle.reading.proofs.Listed.{stages-none, stages-some}
 use Rattle.reading.proofs.stages.Goals as goal
 

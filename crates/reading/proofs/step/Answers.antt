@@ -1,4 +1,3 @@
-use borrow.Author.Rules.{rules}
 use Rattle.reading.proofs.Reading.{step-read}
 use Rattle.reading.proofs.step.Goals as goal
 

@@ -1,5 +1,4 @@
 use mathlib.Core.Path.{◌∙◌}
-use borrow.Author.Rules.{rules}
 use Rattle.solve.proofs.Stack.{effect-read}
 use Rattle.solve.proofs.effect_at.Goals as goal
 

@@ -7,7 +7,6 @@ use lib.ListN.{length}
 use Rattle.effect.specs.Effect.{number_of}
 use Rattle.solve.specs.declared.Work.{Work}
 use Rattle.solve.proofs.Stores.{new, old, stays, room, rises}
-use borrow.Author.Rules.{rules}
 use Rattle.solve.proofs.evaluate.Goals as goal
 
 pub returns-then-new-number : goal.returns-then-new-number

@@ -1,13 +1,12 @@
 use mathlib.Core.Path.{◌≡◌, ◌∙◌, refl, sym}
 use mathlib.Core.List.{List}
-use Prim.Native.Nat.{ℕ, ◌-◌, ◌*◌}
+use Prim.Native.Nat.{ℕ}
 use native.Mathlib.Omega.{arith}
-use borrow.Author.Rules.{rules}
 use lib.ListN.{length, length-map}
 use Rattle.effect.specs.Effect.{effect_of}
 use Rattle.solve.specs.Tables.{relations_of, effects_of, Entered}
 use Rattle.solve.proofs.Reading.{entered_as}
-use Rattle.solve.proofs.Going.{Going, going_start, held, takeable, takes_one, going_on, going_end}
+use Rattle.solve.proofs.Going.{going_start, held, takeable, takes_one, going_on, going_end}
 use Rattle.solve.proofs.fixed_point.Goals as goal
 
 pub loop-w-init : goal.loop-w-init

@@ -1,12 +1,6 @@
-use mathlib.Core.Path.{◌≡◌, ◌∙◌, refl, sym}
-use Prim.Native.Nat.{◌-◌}
+use mathlib.Core.Path.{◌∙◌, refl, sym}
 use native.Mathlib.Omega.{arith}
-use borrow.Author.Rules.{rules}
-use lib.ListN.{length}
-use Rattle.solve.specs.FixedPoint.{evaluate_all}
-use Rattle.solve.specs.Tables.{state_of}
-use Rattle.solve.specs.Handing.{handed}
-use Rattle.solve.proofs.Handing.{Through, through_room, through_on, readable_as, through_end}
+use Rattle.solve.proofs.Handing.{through_room, through_on, readable_as, through_end}
 use Rattle.solve.proofs.hand_out.Goals as goal
 
 pub loop-i-init : goal.loop-i-init

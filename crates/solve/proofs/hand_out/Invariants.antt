@@ -1,12 +1,10 @@
-use mathlib.Core.Path.{◌≡◌, ◌∙◌, refl, sym}
+use mathlib.Core.Path.{◌≡◌}
 use Prim.Native.Nat.{◌-◌}
-use native.Mathlib.Omega.{arith}
-use borrow.Author.Rules.{rules}
 use lib.ListN.{length}
 use Rattle.solve.specs.FixedPoint.{evaluate_all}
 use Rattle.solve.specs.Tables.{state_of}
 use Rattle.solve.specs.Handing.{handed}
-use Rattle.solve.proofs.Handing.{Through, through_room, through_on, readable_as, through_end}
+use Rattle.solve.proofs.Handing.{Through}
 use Rattle.solve.proofs.hand_out.Given as goal
 
 abbrev pub invariant-loop-i : goal.invariant-loop-i

@@ -1,12 +1,11 @@
 use mathlib.Core.Path.{◌≡◌, ◌∙◌, sym, ap}
-use Prim.Native.Nat.{◌-◌, ◌<◌}
+use Prim.Native.Nat.{◌<◌}
 use native.Mathlib.Omega.{arith}
-use borrow.Author.Rules.{rules}
 use lib.ListN.{length}
 use Rattle.effect.specs.Effect.{number_of}
 use Rattle.solve.specs.FixedPoint.{effect_at}
 use Rattle.solve.specs.Tables.{effects_of}
-use Rattle.solve.proofs.Seeding.{Seeding, seeding_start, passed, pushed, seeding_end}
+use Rattle.solve.proofs.Seeding.{seeding_start, passed, pushed, seeding_end}
 use Rattle.solve.proofs.seed.Goals as goal
 use Rattle.solve.proofs.seed.Goals.{then-number-ne10, else-number-ne10}
 

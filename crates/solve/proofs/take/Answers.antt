@@ -4,7 +4,6 @@ use lib.ListN.{get_or}
 use Rattle.solve.specs.FixedPoint.{evaluate_all}
 use Rattle.solve.specs.Handing.{handed, top_of, taken_of}
 use Rattle.solve.proofs.Handing.{handable_as}
-use borrow.Author.Rules.{rules}
 use Rattle.solve.proofs.take.Goals as goal
 
 pub hand_out-requires : goal.hand_out-requires

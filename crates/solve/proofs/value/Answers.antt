@@ -1,4 +1,3 @@
-use borrow.Author.Rules.{rules}
 use Rattle.solve.proofs.value.Goals as goal
 
 pub returns-then-inv : goal.returns-then-inv

@@ -1,6 +1,4 @@
-use Prim.Native.Nat.{◌-◌}
-use borrow.Author.Rules.{rules}
-use Rattle.wires.proofs.Crossing.{Crossing, crossing-start, crossing_on, crossing_end}
+use Rattle.wires.proofs.Crossing.{crossing-start, crossing_on, crossing_end}
 use Rattle.wires.proofs.set_wires.Goals as goal
 
 pub loop-i-init : goal.loop-i-init

@@ -1,6 +1,5 @@
 use Prim.Native.Nat.{◌-◌}
-use borrow.Author.Rules.{rules}
-use Rattle.wires.proofs.Crossing.{Crossing, crossing-start, crossing_on, crossing_end}
+use Rattle.wires.proofs.Crossing.{Crossing}
 use Rattle.wires.proofs.set_wires.Given as goal
 
 abbrev pub invariant-loop-i : goal.invariant-loop-i

@@ -1,5 +1,4 @@
 use mathlib.Core.Path.{◌∙◌, ap₂}
-use borrow.Author.Rules.{rules}
 use Rattle.effect.specs.declared.Effect.{Effect}
 use Rattle.report.specs.Report.{half}
 use Rattle.solve.specs.Tables.{effects_of}

@@ -1,6 +1,5 @@
 use mathlib.Core.Path.{◌≡◌}
 use mathlib.Core.Bool.{Bool, not, ◌&&◌, ◌||◌}
-use borrow.Author.Rules.{rules}
 use Rattle.effect.specs.declared.Effect.{Effect}
 use Rattle.analyzer.specs.Wires.{output, input}
 use Rattle.wires.proofs.Crossing.{none, wire-none, wire-inverse, wire-upright}

@@ -6,7 +6,6 @@ use lib.Seq.{length-take-le}
 use Rattle.solve.specs.Least.{AllInside}
 use Rattle.solve.specs.Tables.{relations_of, Entered}
 use Rattle.analysis.proofs.Entering.{entered_longer}
-use borrow.Author.Rules.{rules}
 use Rattle.analysis.proofs.enter.enter.Goals as goal
 
 -- the part that is lent on

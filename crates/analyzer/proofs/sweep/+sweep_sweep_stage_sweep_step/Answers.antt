@@ -29,9 +29,9 @@ sweep-sweep_stage-requires t c =
         c.requires.image,
         (
           subst (λ (t : ℕ). NamedOrNone t c.args.c.stages) (sym entry)
-          (read.named l.k l.invariant.begun (omega (arith, l.invariant.ends, c.loop-left-test.true))),
+              (read.named l.k l.invariant.begun (omega (arith, l.invariant.ends, c.loop-left-test.true))),
           ready_as (ap (onward_to c.args.s.now) (sym entry))
-          (walking_ready l.invariant c.loop-left-test.true (first_ready (view c.args.s.now) c.args.i.0 below new on few c.requires.ready)),
+              (walking_ready l.invariant c.loop-left-test.true (first_ready (view c.args.s.now) c.args.i.0 below new on few c.requires.ready)),
         ),
       ),
     )

@@ -1,7 +1,4 @@
-use Prim.Native.Nat.{◌-◌}
-use borrow.Author.Rules.{rules}
-use lib.ListN.{length}
-use Rattle.analyzer.proofs.Clearing.{Clearing, clearing_start, clearing_on, clearing_end}
+use Rattle.analyzer.proofs.Clearing.{clearing_start, clearing_on, clearing_end}
 use Rattle.analyzer.proofs.sweep.clear.Goals as goal
 
 pub loop-i-init : goal.loop-i-init

@@ -1,7 +1,6 @@
 use Prim.Native.Nat.{◌-◌}
-use borrow.Author.Rules.{rules}
 use lib.ListN.{length}
-use Rattle.analyzer.proofs.Clearing.{Clearing, clearing_start, clearing_on, clearing_end}
+use Rattle.analyzer.proofs.Clearing.{Clearing}
 use Rattle.analyzer.proofs.sweep.clear.Given as goal
 
 abbrev pub invariant-loop-i : goal.invariant-loop-i

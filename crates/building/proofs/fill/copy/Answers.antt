@@ -1,7 +1,4 @@
-use Prim.Native.Nat.{◌-◌}
-use borrow.Author.Rules.{rules}
-use lib.ListN.{length}
-use Rattle.building.proofs.Copying.{Copying, copying_start, copying_on, copying_end}
+use Rattle.building.proofs.Copying.{copying_start, copying_on, copying_end}
 use Rattle.building.proofs.fill.copy.Goals as goal
 
 pub loop-v-init : goal.loop-v-init

@@ -1,7 +1,6 @@
 use Prim.Native.Nat.{◌-◌}
-use borrow.Author.Rules.{rules}
 use lib.ListN.{length}
-use Rattle.building.proofs.Copying.{Copying, copying_start, copying_on, copying_end}
+use Rattle.building.proofs.Copying.{Copying}
 use Rattle.building.proofs.fill.copy.Given as goal
 
 abbrev pub invariant-loop-v : goal.invariant-loop-v

@@ -1,5 +1,4 @@
 use mathlib.Core.Path.{sym}
-use borrow.Author.Rules.{rules}
 use lib.ListN.{get_or-eq_default}
 use Rattle.effect.specs.declared.Effect.TheVariants.{Never}
 use Rattle.effect.specs.Effect.{effects, effect_of}

@@ -1,8 +1,6 @@
 use mathlib.Core.Path.{◌≡◌, ◌∙◌, ap}
 use Prim.Native.Nat.{ℕ}
 use native.Mathlib.Omega.{arith}
-use borrow.Author.Tests.{not-true, not-false}
-use borrow.Author.Rules.{rules}
 use lib.Seq.{lt-length-set}
 use Rattle.image.specs.View.{view}
 use Rattle.image.specs.Vir.{stage_of}

@@ -1,11 +1,8 @@
-use mathlib.Core.Path.{sym}
 use Prim.Native.Nat.{◌-◌}
-use native.Mathlib.Omega.{arith}
-use borrow.Author.Rules.{rules}
 use Rattle.image.specs.View.{view}
 use Rattle.building.specs.Fill.{exchange_at}
 use Rattle.building.specs.Tables.{disconnect_row}
-use Rattle.building.proofs.Filling.{within_as, Rowing, rowing_start, rowing_on, rowing_end}
+use Rattle.building.proofs.Filling.{Rowing}
 use Rattle.building.proofs.fill.exchange_all.Given as goal
 
 abbrev pub invariant-loop-k : goal.invariant-loop-k

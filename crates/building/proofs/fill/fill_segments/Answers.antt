@@ -1,7 +1,6 @@
 use mathlib.Core.Path.{◌≡◌, ◌∙◌, sym, ap}
 use Prim.Native.Nat.{ℕ}
 use native.Mathlib.Omega.{arith}
-use borrow.Author.Rules.{rules}
 use lib.ListN.{length, take}
 use lib.Seq.{length-take-le, take_at}
 use Rattle.image.specs.View.{view}

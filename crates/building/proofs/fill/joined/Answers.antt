@@ -1,4 +1,3 @@
-use borrow.Author.Rules.{rules}
 use Rattle.building.proofs.fill.joined.Goals as goal
 
 pub returns-then-inv : goal.returns-then-inv

@@ -1,5 +1,4 @@
 use mathlib.Core.Path.{◌∙◌, ap, ap₂}
-use borrow.Author.Rules.{rules}
 use Rattle.effect.specs.Effect.{effect_of}
 use Rattle.analyzer.specs.Fill.{joined}
 use Rattle.building.proofs.Filling.{touch_passed, touch_joined}

@@ -1,9 +1,5 @@
-use Prim.Native.Nat.{◌-◌}
 use native.Mathlib.Omega.{arith}
-use borrow.Author.Rules.{rules}
-use Rattle.building.specs.Fill.{join_touch}
-use Rattle.building.specs.Tables.{touch_row}
-use Rattle.building.proofs.Filling.{Rowing, rowing_start, rowing_on, rowing_end}
+use Rattle.building.proofs.Filling.{rowing_start, rowing_on, rowing_end}
 use Rattle.building.proofs.fill.touch_all.Goals as goal
 
 pub loop-k-init : goal.loop-k-init

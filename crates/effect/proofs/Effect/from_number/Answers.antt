@@ -3,7 +3,6 @@ use lib.ListN.{get_or-eq_default}
 use Rattle.effect.specs.declared.Effect.TheVariants.{Pass, Never}
 use Rattle.effect.specs.Effect.{effect_of, effects}
 use Rattle.effect.proofs.Finite.{get_or_any}
-use borrow.Author.Rules.{rules}
 use Rattle.effect.proofs.Effect.from_number.Goals as goal
 
 pub returns-then-n-lt11 : goal.returns-then-n-lt11

@@ -4,7 +4,6 @@ use Prim.Native.Nat.{ℕ}
 use lib.ListN.{get_or}
 use Rattle.effect.specs.declared.Effect.TheVariants.{Pass}
 use Rattle.effect.specs.Effect.{join, JOIN}
-use borrow.Author.Rules.{rules}
 use native.Mathlib.Omega.{arith}
 use Rattle.effect.proofs.Finite.{number_below}
 use Rattle.effect.proofs.Effect.join.Goals as goal

@@ -1,6 +1,5 @@
 use mathlib.Core.Path.{◌∙◌, ap, ap₂}
 use Rattle.effect.specs.Effect.{number_of, union}
-use borrow.Author.Rules.{rules}
 use Rattle.effect.proofs.numbers.vine_effect_union.Goals as goal
 
 pub returns : goal.returns

@@ -1,11 +1,9 @@
 use mathlib.Core.Path.{◌∙◌, sym, ap}
-use borrow.Author.Tests.{not-true, not-false}
 use Rattle.records.specs.declared.layout.Counts.{Counts}
 use Rattle.image.specs.Check.{record_answer}
 use Rattle.judging.specs.Judge.{walk_all}
 use Rattle.records.specs.Layout.{within, length_of, sections}
 use Rattle.image.proofs.Answering.{check_short, check_unmarked, check_count, check_length, check_records, within-sized}
-use borrow.Author.Rules.{rules}
 use Rattle.image.proofs.check.check.Goals as goal
 
 pub returns-then-s-lt-HEAD : goal.returns-then-s-lt-HEAD

@@ -1,8 +1,6 @@
 use mathlib.Core.Path.{◌∙◌, sym, ap}
-use borrow.Author.Tests.{not-true, not-false}
 use Rattle.records.specs.Layout.{within}
 use Rattle.image.proofs.Heads.{long_unmarked, long_count, long-length}
-use borrow.Author.Rules.{rules}
 use Rattle.image.proofs.check.check_long.Goals as goal
 
 pub returns-then-not-marked : goal.returns-then-not-marked

@@ -1,8 +1,6 @@
 use mathlib.Core.Path.{◌∙◌, sym}
-use borrow.Author.Tests.{not-true, not-false}
 use Rattle.image.specs.View.{view_of}
 use Rattle.image.proofs.Answering.{kind_neither, kind_is_flat, kind_is_layered, kind_breaks}
-use borrow.Author.Rules.{rules}
 use Rattle.image.proofs.check.judge_kind.Goals as goal
 
 pub returns-then-found-eq0 : goal.returns-then-found-eq0

@@ -1,9 +1,7 @@
 use mathlib.Core.Path.{◌∙◌, sym, ap}
-use borrow.Author.Tests.{not-true, not-false}
 use Rattle.image.specs.Check.{record_answer}
 use Rattle.image.proofs.Accepting.{accepted}
 use Rattle.image.proofs.Answering.{records_owned, records_unowned}
-use borrow.Author.Rules.{rules}
 use Rattle.image.proofs.check.judge_records.Goals as goal
 
 pub returns-then-not-owned : goal.returns-then-not-owned

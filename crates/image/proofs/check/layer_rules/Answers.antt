@@ -1,11 +1,10 @@
 use mathlib.Core.Path.{◌≡◌, ◌∙◌, sym}
 use mathlib.Core.Bool.{true}
 use borrow.Author.Tests.{not-true, not-false}
-use Rattle.image.specs.LayerRules.{parents_below, listed_by_own_layer, listed_once, interfaces_lie, entered_from_parent, entered_once}
+use Rattle.image.specs.LayerRules.{parents_below, listed_by_own_layer, listed_once, interfaces_lie, entered_from_parent}
 use Rattle.image.specs.View.{view_of}
 use Rattle.image.specs.Vir.{Vir}
 use Rattle.image.proofs.Ruling.{rule_parents, rule_own, rule_once, rule_lie, rule_parent, rule_entered, rule_diverges, once_counted, entered-counted}
-use borrow.Author.Rules.{rules}
 use Rattle.image.proofs.check.layer_rules.Goals as goal
 
 -- each test that passed says a rule of the view, and the first that fails says which one does not hold

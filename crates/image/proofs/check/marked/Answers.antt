@@ -2,7 +2,6 @@ use mathlib.Core.Path.{◌∙◌, ap}
 use mathlib.Core.Bool.{◌&&◌}
 use Prim.Native.Nat.{ℕ}
 use lib.Dec.{eqb}
-use borrow.Author.Rules.{rules}
 use Rattle.records.specs.Bytes.{u8_at}
 use Rattle.image.proofs.Mark.{one_word}
 use Rattle.image.proofs.check.marked.Goals as goal

@@ -3,7 +3,6 @@ use mathlib.Core.Bool.{◌&&◌, ◌||◌}
 use Prim.Native.Nat.{ℕ}
 use lib.Dec.{eqb}
 use lib.ListN.{set}
-use borrow.Author.Rules.{rules}
 use Rattle.vir.specs.Ids.{none}
 use Rattle.image.proofs.Fields.{parent-at}
 use Rattle.image.proofs.entering.enter.Goals as goal

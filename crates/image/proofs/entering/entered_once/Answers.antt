@@ -1,17 +1,11 @@
 use mathlib.Core.Path.{◌≡◌, ◌∙◌, sym, ap}
-use mathlib.Core.Bool.{Bool, true, ◌||◌}
+use mathlib.Core.Bool.{Bool}
 use mathlib.Core.List.{List}
-use Prim.Native.Nat.{ℕ, ◌-◌, ◌≤◌}
+use Prim.Native.Nat.{ℕ}
 use native.Mathlib.Omega.{arith}
-use lib.Dec.{eqb}
 use lib.ListN.{get_or}
 use borrow.Author.Rules.{rules}
-use borrow.Author.Tests.{not-true, not-false}
-use Rattle.vir.specs.Ids.{none}
 use Rattle.records.specs.declared.layout.Counts.{Counts}
-use Rattle.records.specs.Every.{every}
-use Rattle.image.specs.View.{view_of}
-use Rattle.image.specs.Vir.{layer_of}
 use Rattle.records.proofs.Every.{every-zero, every-on, every_stop, every_end}
 use Rattle.image.proofs.Fields.{parent-at}
 use Rattle.image.proofs.Viewing.{length-layers}

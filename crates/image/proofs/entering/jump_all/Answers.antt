@@ -1,23 +1,15 @@
 use mathlib.Core.Path.{◌≡◌, ◌∙◌, sym, ap}
-use mathlib.Core.Bool.{Bool}
-use mathlib.Core.List.{List}
-use Prim.Native.Nat.{ℕ, ◌-◌, ◌≤◌, ◌<◌}
+use Prim.Native.Nat.{ℕ, ◌≤◌, ◌<◌}
 use native.Mathlib.Omega.{arith}
 use lib.ListN.{length}
 use borrow.Author.Rules.{rules}
-use Rattle.records.specs.declared.layout.Counts.{Counts}
 use Rattle.records.specs.Every.{every}
-use Rattle.image.specs.Entering.{enterable, lies_in}
-use Rattle.image.specs.Kind.{all, concat}
-use Rattle.image.specs.LayerRules.{entries, targets}
-use Rattle.image.specs.Tally.{tally}
 use Rattle.image.specs.View.{view_of}
-use Rattle.image.specs.Vir.{stage_of}
 use Rattle.records.proofs.Every.{every-zero, every-next}
 use Rattle.image.proofs.Diverging.{layer_below}
-use Rattle.image.proofs.Owning.{Owning, owning_start, owning_on, owning_end}
+use Rattle.image.proofs.Owning.{owning_start, owning_on, owning_end}
 use Rattle.image.proofs.Viewing.{length-stages}
-use Rattle.image.proofs.entering.jump_all.Invariants.{entered, diverges}
+use Rattle.image.proofs.entering.jump_all.Invariants.{diverges}
 use Rattle.image.proofs.entering.jump_all.Goals as goal
 
 pub loop-t-init : goal.loop-t-init

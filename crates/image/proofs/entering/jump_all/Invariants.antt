@@ -1,10 +1,7 @@
-use mathlib.Core.Path.{◌≡◌, ◌∙◌, sym, ap}
+use mathlib.Core.Path.{◌≡◌}
 use mathlib.Core.Bool.{Bool}
 use mathlib.Core.List.{List}
-use Prim.Native.Nat.{ℕ, ◌-◌, ◌≤◌, ◌<◌}
-use native.Mathlib.Omega.{arith}
-use lib.ListN.{length}
-use borrow.Author.Rules.{rules}
+use Prim.Native.Nat.{ℕ, ◌-◌, ◌≤◌}
 use Rattle.records.specs.declared.layout.Counts.{Counts}
 use Rattle.records.specs.Every.{every}
 use Rattle.image.specs.Entering.{enterable, lies_in}
@@ -13,10 +10,7 @@ use Rattle.image.specs.LayerRules.{entries, targets}
 use Rattle.image.specs.Tally.{tally}
 use Rattle.image.specs.View.{view_of}
 use Rattle.image.specs.Vir.{stage_of}
-use Rattle.records.proofs.Every.{every-zero, every-next}
-use Rattle.image.proofs.Diverging.{layer_below}
-use Rattle.image.proofs.Owning.{Owning, owning_start, owning_on, owning_end}
-use Rattle.image.proofs.Viewing.{length-stages}
+use Rattle.image.proofs.Owning.{Owning}
 use Rattle.image.proofs.entering.jump_all.Given as goal
 
 abbrev pub diverges : List ℕ → Counts → ℕ → Bool

@@ -1,15 +1,12 @@
-use mathlib.Core.Path.{◌≡◌, refl, ap}
+use mathlib.Core.Path.{◌≡◌}
 use mathlib.Core.Bool.{true, ◌&&◌}
-use Prim.Native.Nat.{ℕ, ◌+◌, ◌*◌, ◌<◌}
-use native.Mathlib.Omega.{arith}
-use borrow.Author.Rules.{rules}
+use Prim.Native.Nat.{◌+◌, ◌*◌}
 use Rattle.records.specs.Layout.{steps_at, step_size}
 use Rattle.image.specs.Entering.{action_at, enters_of, diverges_of, enterable, lies_in}
 use Rattle.image.specs.Kind.{all, concat}
 use Rattle.image.specs.Tally.{tally}
 use Rattle.image.specs.View.{collect, view_of}
-use Rattle.image.proofs.Climbing.{lies_in_itself}
-use Rattle.image.proofs.Passing.{Passing, passing_start, passing_on, passing_end, Counting, counting_start, counting_on, counting_end}
+use Rattle.image.proofs.Passing.{Passing, Counting}
 use Rattle.image.proofs.entering.jump_run.Given as goal
 
 abbrev pub invariant-loop-left : goal.invariant-loop-left

@@ -1,16 +1,11 @@
 use mathlib.Core.Path.{◌≡◌, ◌∙◌, sym, ap}
-use mathlib.Core.Bool.{Bool, true}
 use mathlib.Core.List.{List}
-use Prim.Native.Nat.{ℕ, ◌+◌, ◌*◌, ◌-◌, ◌≤◌}
+use Prim.Native.Nat.{ℕ}
 use native.Mathlib.Omega.{arith}
-use lib.Dec.{eqb}
 use borrow.Author.Rules.{rules}
 use borrow.Author.Tests.{eq-eqb, ne_eqb}
-use Rattle.vir.specs.Ids.{none}
 use Rattle.records.specs.declared.layout.Counts.{Counts}
 use Rattle.records.specs.Bytes.{u16_at}
-use Rattle.records.specs.Every.{every}
-use Rattle.records.specs.Layout.{stages_at}
 use Rattle.image.specs.View.{view_of}
 use Rattle.image.specs.Vir.{stage_of}
 use Rattle.records.proofs.Every.{every-zero, every-on, every_stop, every_end}

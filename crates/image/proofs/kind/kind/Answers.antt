@@ -1,10 +1,8 @@
 use mathlib.Core.Path.{◌≡◌, ◌∙◌, sym, ap}
 use mathlib.Core.Bool.{Bool, true, false, cond}
-use borrow.Author.Tests.{not-true, not-false}
 use Rattle.image.specs.Kind.{listed, listed_by_own}
 use Rattle.image.specs.View.{view_of}
 use Rattle.image.proofs.Deciding.{kind_unowned, listed-counted, kind_unlisted, kind-layered, kind-flat}
-use borrow.Author.Rules.{rules}
 use Rattle.image.proofs.kind.kind.Goals as goal
 
 pub returns-then-not-own_interfaces : goal.returns-then-not-own_interfaces

@@ -11,7 +11,6 @@ use Rattle.image.specs.Tally.{tally, field_is}
 use Rattle.image.specs.View.{refs_from}
 use Rattle.image.proofs.Listing.{inspect_adds, list_adds}
 use Rattle.image.proofs.Owning.{entries-named}
-use borrow.Author.Rules.{rules}
 use Rattle.image.proofs.kind.own_interface.Goals as goal
 
 pub returns-then-record-eq4 : goal.returns-then-record-eq4

@@ -1,20 +1,12 @@
-use mathlib.Core.Path.{◌≡◌, refl}
-use mathlib.Core.Bool.{Bool}
-use mathlib.Core.List.{List, []}
-use Prim.Native.Nat.{ℕ, ◌-◌, ◌≤◌, ◌<◌}
+use mathlib.Core.Path.{refl}
+use mathlib.Core.List.{[]}
+use Prim.Native.Nat.{◌≤◌, ◌<◌}
 use native.Mathlib.Omega.{arith}
-use lib.Dec.{eqb}
 use borrow.Author.Rules.{rules}
 use Rattle.vir.specs.declared.interface.InterfaceKind.TheVariants.{Inspect}
 use Rattle.vir.specs.Ids.{none}
-use Rattle.records.specs.declared.layout.Counts.{Counts}
-use Rattle.image.specs.Kind.{all, concat, stages_of}
-use Rattle.image.specs.Tally.{tally}
-use Rattle.image.specs.View.{view_of}
-use Rattle.image.specs.Vir.{interface_of, stage_of}
-use Rattle.image.proofs.Owning.{Owning, owning_start, owning_on, owning_end}
+use Rattle.image.proofs.Owning.{owning_start, owning_on, owning_end}
 use Rattle.image.proofs.Viewing.{length-interfaces}
-use Rattle.image.proofs.kind.own_interfaces.Invariants.{owned}
 use Rattle.image.proofs.kind.own_interfaces.Goals as goal
 
 pub loop-i-init : goal.loop-i-init

@@ -1,19 +1,14 @@
-use mathlib.Core.Path.{◌≡◌, refl}
+use mathlib.Core.Path.{◌≡◌}
 use mathlib.Core.Bool.{Bool}
-use mathlib.Core.List.{List, []}
-use Prim.Native.Nat.{ℕ, ◌-◌, ◌≤◌, ◌<◌}
-use native.Mathlib.Omega.{arith}
+use mathlib.Core.List.{List}
+use Prim.Native.Nat.{ℕ, ◌-◌}
 use lib.Dec.{eqb}
-use borrow.Author.Rules.{rules}
-use Rattle.vir.specs.declared.interface.InterfaceKind.TheVariants.{Inspect}
-use Rattle.vir.specs.Ids.{none}
 use Rattle.records.specs.declared.layout.Counts.{Counts}
 use Rattle.image.specs.Kind.{all, concat, stages_of}
 use Rattle.image.specs.Tally.{tally}
 use Rattle.image.specs.View.{view_of}
 use Rattle.image.specs.Vir.{interface_of, stage_of}
-use Rattle.image.proofs.Owning.{Owning, owning_start, owning_on, owning_end}
-use Rattle.image.proofs.Viewing.{length-interfaces}
+use Rattle.image.proofs.Owning.{Owning}
 use Rattle.image.proofs.kind.own_interfaces.Given as goal
 
 abbrev pub owned : List ℕ → Counts → ℕ → Bool

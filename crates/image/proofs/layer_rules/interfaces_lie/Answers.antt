@@ -1,16 +1,13 @@
 use mathlib.Core.Path.{◌≡◌, ◌∙◌, sym, ap}
-use mathlib.Core.Bool.{Bool, true, false}
+use mathlib.Core.Bool.{true, false}
 use mathlib.Core.List.{List}
-use Prim.Native.Nat.{ℕ, ◌+◌, ◌*◌, ◌-◌, ◌≤◌, ◌<◌}
+use Prim.Native.Nat.{ℕ, ◌≤◌, ◌<◌}
 use native.Mathlib.Omega.{arith}
-use lib.Dec.{ltb}
 use lib.ListN.{length}
 use borrow.Author.Rules.{rules}
 use borrow.Author.Tests.{lt-ltb, le-ltb}
 use Rattle.records.specs.declared.layout.Counts.{Counts}
 use Rattle.records.specs.Bytes.{u16_at}
-use Rattle.records.specs.Every.{every}
-use Rattle.records.specs.Layout.{interfaces_at}
 use Rattle.image.specs.View.{view_of}
 use Rattle.image.specs.Vir.{interface_of}
 use Rattle.records.proofs.Every.{every-zero, every-on, every_stop, every_end}

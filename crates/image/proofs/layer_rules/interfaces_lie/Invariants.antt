@@ -1,21 +1,14 @@
-use mathlib.Core.Path.{◌≡◌, ◌∙◌, sym, ap}
-use mathlib.Core.Bool.{Bool, true, false}
+use mathlib.Core.Path.{◌≡◌}
+use mathlib.Core.Bool.{Bool, true}
 use mathlib.Core.List.{List}
-use Prim.Native.Nat.{ℕ, ◌+◌, ◌*◌, ◌-◌, ◌≤◌, ◌<◌}
-use native.Mathlib.Omega.{arith}
+use Prim.Native.Nat.{ℕ, ◌+◌, ◌*◌, ◌-◌, ◌≤◌}
 use lib.Dec.{ltb}
 use lib.ListN.{length}
-use borrow.Author.Rules.{rules}
-use borrow.Author.Tests.{lt-ltb, le-ltb}
 use Rattle.records.specs.declared.layout.Counts.{Counts}
-use Rattle.records.specs.Bytes.{u16_at}
 use Rattle.records.specs.Every.{every}
 use Rattle.records.specs.Layout.{interfaces_at}
 use Rattle.image.specs.View.{view_of}
 use Rattle.image.specs.Vir.{interface_of}
-use Rattle.records.proofs.Every.{every-zero, every-on, every_stop, every_end}
-use Rattle.image.proofs.Fields.{lies_at}
-use Rattle.image.proofs.Viewing.{length-layers, length-interfaces}
 use Rattle.image.proofs.layer_rules.interfaces_lie.Given as goal
 
 -- the test of an interface

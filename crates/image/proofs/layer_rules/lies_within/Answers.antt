@@ -1,11 +1,8 @@
-use mathlib.Core.Path.{◌≡◌, refl}
-use mathlib.Core.Bool.{true}
-use Prim.Native.Nat.{◌+◌, ◌*◌, ◌≤◌, ◌<◌}
+use mathlib.Core.Path.{refl}
+use Prim.Native.Nat.{◌+◌, ◌*◌, ◌≤◌}
 use native.Mathlib.Omega.{arith}
 use lib.ListN.{length}
 use Rattle.records.specs.declared.layout.Counts.{Counts}
-use Rattle.image.specs.LayerRules.{parents_below}
-use Rattle.image.specs.View.{view_of}
 use Rattle.image.proofs.Climbing.{Climbed, climbed_found, climbed_root, climbed_less, climbed_on}
 use Rattle.image.proofs.layer_rules.lies_within.Goals as goal
 

@@ -1,20 +1,13 @@
-use mathlib.Core.Path.{◌≡◌, ◌∙◌, sym, ap}
+use mathlib.Core.Path.{◌≡◌}
 use mathlib.Core.Bool.{Bool, true, ◌||◌}
 use mathlib.Core.List.{List}
 use Prim.Native.Nat.{ℕ, ◌+◌, ◌*◌, ◌-◌, ◌≤◌}
-use native.Mathlib.Omega.{arith}
 use lib.Dec.{eqb, ltb}
-use borrow.Author.Rules.{rules}
-use borrow.Author.Tests.{not-true, not-false}
 use Rattle.vir.specs.Ids.{none}
 use Rattle.records.specs.declared.layout.Counts.{Counts}
-use Rattle.records.specs.Bytes.{u16_at}
 use Rattle.records.specs.Every.{every}
 use Rattle.image.specs.View.{view_of}
 use Rattle.image.specs.Vir.{layer_of}
-use Rattle.records.proofs.Every.{every-zero, every-on, every_stop, every_end}
-use Rattle.image.proofs.Fields.{parent-at}
-use Rattle.image.proofs.Viewing.{length-layers}
 use Rattle.image.proofs.layer_rules.parents_below.Given as goal
 
 -- the test of a parent, and of a layer's

@@ -11,7 +11,6 @@ use Rattle.image.specs.Tally.{tally, field_is}
 use Rattle.image.specs.View.{refs_from}
 use Rattle.image.proofs.Listing.{layer_adds}
 use Rattle.image.proofs.Owning.{entries-named}
-use borrow.Author.Rules.{rules}
 use Rattle.image.proofs.layered.own_layer.Goals as goal
 
 pub tally_run-requires : goal.tally_run-requires

@@ -1,19 +1,11 @@
-use mathlib.Core.Path.{◌≡◌, refl}
-use mathlib.Core.Bool.{Bool}
-use mathlib.Core.List.{List, []}
-use Prim.Native.Nat.{ℕ, ◌-◌, ◌≤◌, ◌<◌}
+use mathlib.Core.Path.{refl}
+use mathlib.Core.List.{[]}
+use Prim.Native.Nat.{◌≤◌, ◌<◌}
 use native.Mathlib.Omega.{arith}
-use lib.Dec.{eqb}
 use borrow.Author.Rules.{rules}
 use Rattle.vir.specs.Ids.{none}
-use Rattle.records.specs.declared.layout.Counts.{Counts}
-use Rattle.image.specs.Kind.{all, concat}
-use Rattle.image.specs.Tally.{tally}
-use Rattle.image.specs.View.{view_of}
-use Rattle.image.specs.Vir.{layer_of, stage_of}
-use Rattle.image.proofs.Owning.{Owning, owning_start, owning_on, owning_end}
+use Rattle.image.proofs.Owning.{owning_start, owning_on, owning_end}
 use Rattle.image.proofs.Viewing.{length-layers}
-use Rattle.image.proofs.layered.own_layers.Invariants.{owned}
 use Rattle.image.proofs.layered.own_layers.Goals as goal
 
 pub loop-l-init : goal.loop-l-init

@@ -1,5 +1,5 @@
 use mathlib.Core.Path.{◌≡◌, ◌∙◌, refl, sym, ap}
-use Prim.Native.Nat.{ℕ, ◌-◌, ◌≤◌}
+use Prim.Native.Nat.{ℕ}
 use native.Mathlib.Omega.{arith}
 use borrow.Author.Rules.{rules}
 use Rattle.records.specs.Every.{every}

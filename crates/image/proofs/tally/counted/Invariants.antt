@@ -1,10 +1,7 @@
-use mathlib.Core.Path.{◌≡◌, ◌∙◌, refl, sym, ap}
-use Prim.Native.Nat.{ℕ, ◌-◌, ◌≤◌}
-use native.Mathlib.Omega.{arith}
-use borrow.Author.Rules.{rules}
+use mathlib.Core.Path.{◌≡◌}
+use Prim.Native.Nat.{◌-◌, ◌≤◌}
 use Rattle.records.specs.Every.{every}
 use Rattle.image.specs.Tally.{counted_at}
-use Rattle.records.proofs.Every.{every-zero, every-next}
 use Rattle.image.proofs.tally.counted.Given as goal
 
 abbrev pub invariant-loop-i : goal.invariant-loop-i

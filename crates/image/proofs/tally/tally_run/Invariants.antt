@@ -1,16 +1,13 @@
-use mathlib.Core.Path.{◌≡◌, ◌∙◌, refl, sym, ap, subst}
+use mathlib.Core.Path.{◌≡◌}
 use mathlib.Core.List.{List}
-use Prim.Native.Nat.{ℕ, ◌+◌, ◌*◌, ◌≤◌, ◌<◌}
-use native.Mathlib.Omega.{arith}
-use borrow.Author.Rules.{rules}
-use Rattle.vir.specs.Ids.{none}
+use Prim.Native.Nat.{ℕ, ◌+◌, ◌*◌, ◌≤◌}
 use Rattle.records.specs.declared.layout.Counts.{Counts}
 use Rattle.records.specs.Bytes.{u16_at}
 use Rattle.image.specs.Kind.{all, present}
 use Rattle.records.specs.Layout.{refs_at}
-use Rattle.image.specs.Tally.{tally, field_is, tally_entry, owns}
+use Rattle.image.specs.Tally.{tally, field_is}
 use Rattle.image.specs.View.{collect}
-use Rattle.image.proofs.Tallies.{Tallying, tallying_start, tallying_on, tallying_end}
+use Rattle.image.proofs.Tallies.{Tallying}
 use Rattle.image.proofs.tally.tally_run.Given as goal
 
 abbrev pub entry : List ℕ → Counts → ℕ → ℕ

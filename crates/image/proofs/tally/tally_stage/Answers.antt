@@ -3,7 +3,6 @@ use Prim.Native.Nat.{ℕ, ◌+◌, ◌*◌}
 use lib.Dec.{eqb}
 use lib.ListN.{set}
 use Rattle.records.specs.Bytes.{u16_at}
-use borrow.Author.Rules.{rules}
 use Rattle.image.proofs.tally.tally_stage.Goals as goal
 
 pub returns : goal.returns

@@ -3,7 +3,6 @@ use native.Mathlib.Omega.{arith}
 use Rattle.records.specs.declared.layout.Section.{Section}
 use Rattle.judging.specs.Judge.{judge, judge_layer, judge_interface, judge_stage, judge_local, judge_type, judge_step, judge_port}
 use Rattle.records.specs.Layout.{size_of}
-use borrow.Author.Rules.{rules}
 use Rattle.judging.proofs.judge.judge.Goals as goal
 
 pub read-requires : goal.read-requires

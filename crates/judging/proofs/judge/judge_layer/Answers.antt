@@ -2,7 +2,6 @@ use native.Mathlib.Omega.{arith}
 use Rattle.rules.specs.Faults.{layer_good}
 use Rattle.records.proofs.Guards.{guard_holds}
 use Rattle.judging.proofs.Judging.{judged_no, judged_next, layer-next}
-use borrow.Author.Rules.{rules}
 use Rattle.judging.proofs.judge.judge_layer.Goals as goal
 
 pub returns-then-not-layer_good : goal.returns-then-not-layer_good

@@ -1,6 +1,5 @@
 use Rattle.rules.specs.Faults.{local_good}
 use Rattle.judging.proofs.Judging.{judged_no, judged_next}
-use borrow.Author.Rules.{rules}
 use Rattle.judging.proofs.judge.judge_local.Goals as goal
 
 pub returns-then-not-local_good : goal.returns-then-not-local_good

@@ -2,7 +2,6 @@ use native.Mathlib.Omega.{arith}
 use Rattle.rules.specs.Faults.{stage_good}
 use Rattle.records.proofs.Guards.{guard_holds}
 use Rattle.judging.proofs.Judging.{judged_no, judged_next, Placed, stage-next}
-use borrow.Author.Rules.{rules}
 use Rattle.judging.proofs.judge.judge_stage.Goals as goal
 
 pub returns-then-not-stage_good : goal.returns-then-not-stage_good

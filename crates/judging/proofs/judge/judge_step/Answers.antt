@@ -4,7 +4,6 @@ use native.Mathlib.Omega.{arith}
 use Rattle.rules.specs.Faults.{step_good}
 use Rattle.records.proofs.Guards.{guard_holds}
 use Rattle.judging.proofs.Judging.{judged_no, judged_next, step-next}
-use borrow.Author.Rules.{rules}
 use Rattle.judging.proofs.judge.judge_step.Goals as goal
 
 pub returns-then-not-step_good : goal.returns-then-not-step_good

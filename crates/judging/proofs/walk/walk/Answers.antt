@@ -1,12 +1,10 @@
 use mathlib.Core.Path.{◌≡◌, ◌∙◌, sym, ap}
-use Prim.Native.Nat.{◌-◌}
 use lib.ListN.{get_or}
-use borrow.Author.Rules.{rules}
 use Rattle.records.specs.declared.layout.Section.{Section}
 use Rattle.records.specs.declared.layout.Section.TheVariants.{Ports}
-use Rattle.judging.specs.Judge.{walk_section, walk_all}
+use Rattle.judging.specs.Judge.{walk_section}
 use Rattle.records.specs.Layout.{sections}
-use Rattle.judging.proofs.Walks.{Passing, passing_start, passing_fault, passing_on, passing_end}
+use Rattle.judging.proofs.Walks.{passing_start, passing_fault, passing_on, passing_end}
 use Rattle.judging.proofs.walk.walk.Goals as goal
 
 pub loop-k-init : goal.loop-k-init

@@ -1,9 +1,6 @@
-use mathlib.Core.Path.{◌≡◌, ◌∙◌, sym}
+use mathlib.Core.Path.{◌∙◌, sym}
 use native.Mathlib.Omega.{arith}
-use borrow.Author.Rules.{rules}
-use Rattle.judging.specs.Judge.{walk_section}
-use Rattle.records.specs.Layout.{size_of}
-use Rattle.judging.proofs.Walks.{Walking, walking_start, walking_room, walking_fault, walking_next, walking_end}
+use Rattle.judging.proofs.Walks.{walking_start, walking_room, walking_fault, walking_next, walking_end}
 use Rattle.judging.proofs.walk.walk_section.Goals as goal
 
 pub loop-left-init : goal.loop-left-init

@@ -1,9 +1,7 @@
-use mathlib.Core.Path.{◌≡◌, ◌∙◌, sym}
-use native.Mathlib.Omega.{arith}
-use borrow.Author.Rules.{rules}
+use mathlib.Core.Path.{◌≡◌}
 use Rattle.judging.specs.Judge.{walk_section}
 use Rattle.records.specs.Layout.{size_of}
-use Rattle.judging.proofs.Walks.{Walking, walking_start, walking_room, walking_fault, walking_next, walking_end}
+use Rattle.judging.proofs.Walks.{Walking}
 use Rattle.judging.proofs.walk.walk_section.Given as goal
 
 abbrev pub invariant-loop-left : goal.invariant-loop-left

@@ -1,5 +1,4 @@
 use mathlib.Core.Path.{refl}
-use borrow.Author.Rules.{rules}
 use Rattle.report.proofs.Laying.{laid_then}
 use Rattle.report.proofs.bytes.put_u16.Goals as goal
 

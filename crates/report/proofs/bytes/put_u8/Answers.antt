@@ -1,4 +1,3 @@
-use borrow.Author.Rules.{rules}
 use Rattle.report.proofs.Laying.{laid_byte}
 use Rattle.report.proofs.bytes.put_u8.Goals as goal
 

@@ -1,7 +1,5 @@
-use Prim.Native.Nat.{ℕ, ◌+◌, ◌*◌, ◌-◌, ◌≤◌}
+use Prim.Native.Nat.{ℕ, ◌+◌, ◌*◌, ◌≤◌}
 use native.Mathlib.Omega.{arith}
-use borrow.Author.Rules.{rules}
-use Rattle.report.specs.Writing.{Column}
 use Rattle.report.proofs.Halves.{row_fits, column_start, column_on, column_end}
 use Rattle.report.proofs.column.column.Goals as goal
 

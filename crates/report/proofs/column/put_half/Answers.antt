@@ -1,4 +1,3 @@
-use borrow.Author.Rules.{rules}
 use Rattle.report.proofs.Halves.{halved_even, halved_odd}
 use Rattle.report.proofs.column.put_half.Goals as goal
 

@@ -1,4 +1,3 @@
-use borrow.Author.Rules.{rules}
 use Rattle.report.proofs.Saying.{saying_past, saying_put}
 use Rattle.report.proofs.diag.say.Goals as goal
 

@@ -1,6 +1,5 @@
 use mathlib.Core.Path.{refl}
 use native.Mathlib.Omega.{arith}
-use borrow.Author.Rules.{rules}
 use Rattle.report.proofs.Laying.{laid_then}
 use Rattle.report.proofs.Heads.{headed}
 use Rattle.report.proofs.head.head.Goals as goal

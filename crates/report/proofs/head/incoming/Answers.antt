@@ -1,10 +1,4 @@
-use Prim.Native.Nat.{◌-◌, ◌≤◌}
 use native.Mathlib.Omega.{arith}
-use borrow.Author.Rules.{rules}
-use lib.ListN.{take}
-use Rattle.image.specs.Encode.{u32_bytes}
-use Rattle.image.specs.Kind.{concat}
-use Rattle.report.specs.Writing.{Laid}
 use Rattle.report.proofs.Heads.{counts_start, counts-on, counts_end}
 use Rattle.report.proofs.head.incoming.Goals as goal
 

@@ -3,7 +3,6 @@ use mathlib.Core.Bool.{◌&&◌}
 use Prim.Native.Nat.{ℕ}
 use lib.Dec.{ltb}
 use Rattle.rules.specs.Faults.{or_none}
-use borrow.Author.Rules.{rules}
 use Rattle.rules.proofs.faults.closure_named.Goals as goal
 
 pub returns : goal.returns

@@ -1,5 +1,4 @@
 use Rattle.rules.proofs.Asked.{step_diverges}
-use borrow.Author.Rules.{rules}
 use Rattle.rules.proofs.faults.diverge_good.Goals as goal
 
 pub returns : goal.returns

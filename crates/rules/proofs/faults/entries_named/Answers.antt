@@ -1,7 +1,6 @@
 use mathlib.Core.Path.{◌∙◌}
 use native.Mathlib.Omega.{arith}
 use Rattle.rules.proofs.Fits.{entries_inspect, entries_closure, entries-stages}
-use borrow.Author.Rules.{rules}
 use Rattle.rules.proofs.faults.entries_named.Goals as goal
 
 pub returns-then-i-eq4 : goal.returns-then-i-eq4

@@ -1,6 +1,5 @@
 use mathlib.Core.Bool.{and-true, and-false}
 use Rattle.records.proofs.Guards.{guard_fails, guard_holds}
-use borrow.Author.Rules.{rules}
 use Rattle.rules.proofs.faults.interface_fields.Goals as goal
 
 pub returns-then-not-kind_lists : goal.returns-then-not-kind_lists

@@ -4,7 +4,6 @@ use native.Mathlib.Omega.{arith}
 use Rattle.rules.specs.Faults.{entries_named, interface_fields, interface_good}
 use Rattle.rules.proofs.Fits.{interface-fits, closure_three}
 use Rattle.records.proofs.Guards.{guard_no, guard_go, guard_holds}
-use borrow.Author.Rules.{rules}
 use Rattle.rules.proofs.faults.interface_good.Goals as goal
 
 pub returns-then-not-interface_fields : goal.returns-then-not-interface_fields

@@ -1,5 +1,4 @@
 use Rattle.rules.proofs.Asked.{step-invoked}
-use borrow.Author.Rules.{rules}
 use Rattle.rules.proofs.faults.invoke_good.Goals as goal
 
 pub returns : goal.returns

@@ -1,6 +1,5 @@
 use borrow.Author.Tests.{eq-eqb, ne_eqb, le-leb, lt-leb}
 use Rattle.rules.proofs.Asked.{kind_asked_lem}
-use borrow.Author.Rules.{rules}
 use Rattle.rules.proofs.faults.kind_lists.Goals as goal
 
 pub returns-then-kind-le1 : goal.returns-then-kind-le1

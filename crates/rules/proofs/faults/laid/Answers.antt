@@ -1,7 +1,6 @@
 use mathlib.Core.Path.{sym, ap}
 use Prim.Native.Nat.{ℕ, ◌+◌}
 use lib.Dec.{eqb, leb}
-use borrow.Author.Rules.{rules}
 use borrow.Author.Tests.{eq-eqb, ne_eqb}
 use Rattle.records.proofs.Guards.{and_stops, and_goes}
 use Rattle.rules.proofs.faults.laid.Goals as goal

@@ -1,6 +1,5 @@
 use mathlib.Core.Path.{ap₂}
 use mathlib.Core.Bool.{◌&&◌}
-use borrow.Author.Rules.{rules}
 use Rattle.rules.proofs.faults.layer_fields.Goals as goal
 
 pub returns : goal.returns

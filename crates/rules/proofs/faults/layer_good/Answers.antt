@@ -7,7 +7,6 @@ use Rattle.records.specs.Every.{every}
 use Rattle.rules.specs.Faults.{refs_below, layer_fields, layer_good}
 use Rattle.rules.proofs.Fits.{layer_fits_lem}
 use Rattle.records.proofs.Guards.{guard_no, guard_go, guard_holds}
-use borrow.Author.Rules.{rules}
 use Rattle.rules.proofs.faults.layer_good.Goals as goal
 
 pub returns-then-not-layer_fields : goal.returns-then-not-layer_fields

@@ -1,5 +1,4 @@
 use Rattle.rules.proofs.Asked.{step_others, step-none}
-use borrow.Author.Rules.{rules}
 use Rattle.rules.proofs.faults.other_good.Goals as goal
 
 pub returns-then-t-gt20 : goal.returns-then-t-gt20

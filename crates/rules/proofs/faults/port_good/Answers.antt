@@ -1,6 +1,4 @@
 use mathlib.Core.Path.{◌∙◌, sym}
-use borrow.Author.Rules.{rules}
-use borrow.Author.Tests.{not-true, not-false}
 use Rattle.rules.proofs.Fits.{port_untyped, port_wire, port_other}
 use Rattle.rules.proofs.faults.port_good.Goals as goal
 

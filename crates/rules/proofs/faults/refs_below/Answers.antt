@@ -1,13 +1,10 @@
 use mathlib.Core.Path.{◌≡◌, ◌∙◌, sym, ap}
 use mathlib.Core.Bool.{Bool, true, false}
-use mathlib.Core.List.{List}
-use Prim.Native.Nat.{ℕ, ◌+◌, ◌*◌, ◌-◌, ◌≤◌, ◌<◌}
+use Prim.Native.Nat.{ℕ, ◌+◌, ◌*◌, ◌≤◌, ◌<◌}
 use native.Mathlib.Omega.{arith}
-use lib.Dec.{ltb}
 use borrow.Author.Rules.{rules}
 use borrow.Author.Tests.{lt-ltb, le-ltb}
 use Rattle.records.specs.Bytes.{u16_at}
-use Rattle.records.specs.Every.{every}
 use Rattle.records.proofs.Every.{every-zero, every-on, every_stop, every_end}
 use Rattle.rules.proofs.faults.refs_below.Invariants.{named}
 use Rattle.rules.proofs.faults.refs_below.Goals as goal

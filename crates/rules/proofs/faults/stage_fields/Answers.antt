@@ -1,5 +1,4 @@
 use Rattle.records.proofs.Guards.{guard_fails, guard_holds}
-use borrow.Author.Rules.{rules}
 use Rattle.rules.proofs.faults.stage_fields.Goals as goal
 
 pub returns-then-not-stage_named : goal.returns-then-not-stage_named

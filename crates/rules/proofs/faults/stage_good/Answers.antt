@@ -7,7 +7,6 @@ use Rattle.records.specs.Every.{every}
 use Rattle.rules.specs.Faults.{refs_below, stage_fields, stage_good}
 use Rattle.rules.proofs.Fits.{stage-fits}
 use Rattle.records.proofs.Guards.{guard_no, guard_go, guard_holds}
-use borrow.Author.Rules.{rules}
 use Rattle.rules.proofs.faults.stage_good.Goals as goal
 
 pub returns-then-not-stage_fields : goal.returns-then-not-stage_fields

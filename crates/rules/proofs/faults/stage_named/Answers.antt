@@ -1,7 +1,6 @@
 use mathlib.Core.Path.{ap₂}
 use mathlib.Core.Bool.{◌&&◌, and-false}
 use Rattle.records.proofs.Guards.{guard_fails, guard_holds, and_goes}
-use borrow.Author.Rules.{rules}
 use Rattle.rules.proofs.faults.stage_named.Goals as goal
 
 pub returns-then-not-names : goal.returns-then-not-names

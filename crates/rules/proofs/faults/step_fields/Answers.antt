@@ -1,4 +1,3 @@
-use borrow.Author.Rules.{rules}
 use Rattle.rules.proofs.faults.step_fields.Goals as goal
 
 pub returns : goal.returns

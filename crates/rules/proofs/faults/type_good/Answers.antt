@@ -1,6 +1,5 @@
 use mathlib.Core.Path.{ap₂}
 use mathlib.Core.Bool.{◌&&◌}
-use borrow.Author.Rules.{rules}
 use Rattle.rules.proofs.faults.type_good.Goals as goal
 
 pub returns : goal.returns

@@ -1,4 +1,3 @@
-use borrow.Author.Rules.{rules}
 use Rattle.records.proofs.layout.Counts.read.Goals as goal
 
 pub returns : goal.returns

@@ -3,7 +3,6 @@ use lib.ListN.{get_or-eq_default}
 use Rattle.vir.proofs.Arms.{past}
 use Rattle.records.specs.declared.layout.Section.TheVariants.{Ports}
 use Rattle.records.specs.Layout.{sections}
-use borrow.Author.Rules.{rules}
 use Rattle.records.proofs.layout.Section.nth.Goals as goal
 
 pub returns-in_default : goal.returns-in_default

@@ -1,6 +1,5 @@
 use mathlib.Core.Path.{◌∙◌, sym, ap}
 use Rattle.records.specs.Layout.{start_of}
-use borrow.Author.Rules.{rules}
 use Rattle.records.proofs.layout.Section.start.Goals as goal
 
 pub returns-in-Interfaces : goal.returns-in-Interfaces

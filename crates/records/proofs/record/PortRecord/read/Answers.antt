@@ -1,4 +1,3 @@
-use borrow.Author.Rules.{rules}
 use Rattle.records.proofs.record.PortRecord.read.Goals as goal
 
 pub returns : goal.returns

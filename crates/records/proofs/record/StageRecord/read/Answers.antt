@@ -1,6 +1,5 @@
 use Prim.Native.Nat.{◌+◌}
 use Rattle.records.specs.Bytes.{u8_at}
-use borrow.Author.Rules.{rules}
 use Rattle.records.proofs.record.StageRecord.read.Goals as goal
 
 pub returns : goal.returns

@@ -1,7 +1,6 @@
 use mathlib.Core.Path.{sym, ap}
 use Rattle.vir.specs.declared.arity.Arity.{Arity}
 use Rattle.vir.specs.Arity.{allows}
-use borrow.Author.Rules.{rules}
 use Rattle.vir.proofs.arity.Arity.allows.Goals as goal
 
 pub returns-in-Exactly : goal.returns-in-Exactly

@@ -1,5 +1,4 @@
 use borrow.Author.Tests.{lt-ltb, le-ltb}
-use borrow.Author.Rules.{rules}
 use Rattle.vir.proofs.ids.Type.inverse.Goals as goal
 
 pub returns-then-self-lt32768 : goal.returns-then-self-lt32768

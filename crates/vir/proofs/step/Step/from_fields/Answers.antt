@@ -5,7 +5,6 @@ use Rattle.vir.proofs.Arms.{past}
 use Rattle.vir.specs.declared.step.FoundStep.TheVariants.{Step, Nothing}
 use Rattle.vir.specs.declared.step.Step.TheVariants.{Diverge}
 use Rattle.vir.specs.Step.{step_of, steps}
-use borrow.Author.Rules.{rules}
 use Rattle.vir.proofs.step.Step.from_fields.Goals as goal
 
 pub returns-in-0 : goal.returns-in-0

@@ -1,6 +1,5 @@
 use mathlib.Core.Path.{◌∙◌, sym, ap}
 use Rattle.vir.specs.Step.{step_ports}
-use borrow.Author.Rules.{rules}
 use Rattle.vir.proofs.step.Step.ports.Goals as goal
 
 pub returns-in-Invoke : goal.returns-in-Invoke
