@@ -42,7 +42,8 @@ fn declared_in(s: &[u8], c: Counts, incoming: &[u32], t: StageId, l: Local) -> b
 {
     let record = stage(s, c, t);
     let at = record.interface.0 as usize;
-    if incoming[at] == 0 {
+    let unreached = incoming[at] == 0;
+    if unreached {
         return false;
     }
     declares(s, c, t, l)
