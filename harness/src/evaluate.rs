@@ -1,7 +1,8 @@
 //! The definitions of normalising and analysing, run against Vine's own code by the toolchain's own evaluation.
 //!
 //! A claim says what a definition answers to an image, and its proof is to compute. The claims stand in crates of
-//! a throw-away project, which has the repository's crates beside them as they were proved.
+//! a throw-away project, which has the crates that they rest on beside them: `rt ci` there takes these as an earlier one
+//! proved them, where the toolchain kept that, and else proves them first.
 
 use std::{
     collections::BTreeMap,
@@ -9,7 +10,6 @@ use std::{
     fmt::{self, Display},
     fs, io,
     ops::Range,
-    os::unix::fs::symlink,
     path::{Path, PathBuf},
     process::{self, Command},
     sync::atomic::{AtomicU32, Ordering},
@@ -150,7 +150,7 @@ fn oracle(call: Call, image: &[u8]) -> Vec<u32> {
 #[derive(Debug)]
 pub struct Judged {
     pub differences: Vec<Difference>,
-    /// The family of each answer that takes more steps than the toolchain makes.
+    /// The family of each answer that takes more steps, or a deeper stack, than the toolchain has.
     pub undecided: Vec<String>,
     /// Where the project is, which stays if there is a difference.
     pub kept: Option<PathBuf>,
@@ -169,7 +169,9 @@ pub fn evaluate(cases: &[Case]) -> Result<Judged, String> {
         for (m, (call, oracle)) in case.answers.iter().enumerate() {
             match refused.get(&claim(n, m)) {
                 None => {}
-                Some(said) if said.contains(STEP_LIMIT) => undecided.push(case.family.clone()),
+                Some(said) if LIMITS.iter().any(|limit| said.contains(limit)) => {
+                    undecided.push(case.family.clone())
+                }
                 Some(_) => differences.push(difference(case, *call, oracle)),
             }
         }
@@ -195,13 +197,11 @@ fn difference(case: &Case, call: Call, oracle: &[u32]) -> Difference {
     Difference { family, seed, call, image, oracle: oracle.to_vec(), definition: vec![] }
 }
 
-const STEP_LIMIT: &str = "stopped at the step limit";
-const HEAD: &str = "use mathlib.Core.List.{List, [], _∷_}
-use mathlib.Core.Path.{_≡_, refl}
-use Prim.Native.Nat.{ℕ}
-use lib.ListN.{drop, take}
-use Rattle·analyzer.proofs.Computed.{analyseNumbers}
-use Rattle·normalizer.proofs.Computed.{normaliseNumbers}
+/// What the toolchain says of a claim that it could not tell.
+const LIMITS: [&str; 2] = ["stopped at the step limit", "deep recursion"];
+const HEAD: &str = "use Rattle.std.specs.Prelude.{List, [], ◌∷◌, ◌≡◌, ℕ, refl, take, drop}
+use Rattle.analyzer.proofs.Computed.{analyse_numbers}
+use Rattle.normalizer.proofs.Computed.{normalise_numbers}
 ";
 
 /// A file with a claim for each answer to these cases, which have their numbers with them.
@@ -225,7 +225,9 @@ fn claim(case: usize, answer: usize) -> String {
 }
 
 fn proof(name: &str, image: usize, left: &str, right: &str) -> String {
-    format!("\n{name} : {left} ≡ {right}\nunfolding analyseNumbers normaliseNumbers image{image}\n{name} = refl\n")
+    format!(
+        "\n{name} : {left} ≡ {right}\nunfolding analyse_numbers normalise_numbers image{image}\n{name} = refl\n"
+    )
 }
 
 fn list<N: Display>(numbers: &[N]) -> String {
@@ -236,19 +238,25 @@ impl Call {
     /// The definition's answer to an image.
     fn on(self, image: usize) -> String {
         match self {
-            Call::Normalise => format!("normaliseNumbers image{image}"),
-            Call::Analyse(span) => format!("analyseNumbers {span} image{image}"),
+            Call::Normalise => format!("normalise_numbers image{image}"),
+            Call::Analyse(span) => format!("analyse_numbers {span} image{image}"),
         }
     }
 }
 
-/// A project with the repository's crates, what was proved of them, and the crates with the claims.
+/// A project with the crates that the claims rest on, and those with the claims.
 struct Project {
     root: PathBuf,
+    /// The lines of crates.txt for the crates that the claims rest on.
+    listed: String,
 }
 
-/// The toolchain proves them side by side.
-const OWN: [&str; 2] = ["evaluated0", "evaluated1"];
+/// The crates that the claims cite.
+const CITED: [&str; 2] = ["analyzer", "normalizer"];
+/// The crates with the claims, which the toolchain proves side by side.
+const OWN: [&str; 4] = ["evaluated0", "evaluated1", "evaluated2", "evaluated3"];
+/// A crate has a function, if only for its proof files to be read.
+const SOURCE: &str = "#![tactic(auto)]\n\npub fn none() {}\n";
 
 impl Project {
     fn new() -> io::Result<Project> {
@@ -257,57 +265,65 @@ impl Project {
         let root = env::temp_dir().join(format!("evaluate-{}-{count}", process::id()));
         let repository = Path::new(env!("CARGO_MANIFEST_DIR")).join("..").canonicalize()?;
         fs::create_dir(&root)?;
-        fs::create_dir(root.join("crates"))?;
-        for entry in fs::read_dir(repository.join("crates"))? {
-            let entry = entry?;
-            symlink(entry.path(), root.join("crates").join(entry.file_name()))?;
+        // with it the folder is the top of a repository
+        fs::create_dir(root.join(".git"))?;
+        let handles = repository.join("HANDLES");
+        if handles.is_file() {
+            fs::copy(handles, root.join("HANDLES"))?;
         }
-        // copies: what is proved here is not to change what was proved there
-        for proved in ["target/rlib", "target/stamp"] {
-            if repository.join(proved).is_dir() {
-                copy(&repository.join(proved), &root.join(proved))?;
+        let all = fs::read_to_string(repository.join("crates.txt"))?;
+        let mut listed = String::new();
+        for (name, line) in below(&all, &CITED) {
+            listed += &format!("{line}\n");
+            for part in ["src", "specs", "proofs"] {
+                let inside = Path::new("crates").join(name).join(part);
+                if repository.join(&inside).is_dir() {
+                    copy(&repository.join(&inside), &root.join(&inside))?;
+                }
             }
         }
-        let mut crates = fs::read_to_string(repository.join("crates.txt"))?;
-        for name in OWN {
-            crates += &format!("{name}: analyzer normalizer\n");
-            let source = root.join("crates").join(name).join("src");
-            fs::create_dir_all(&source)?;
-            fs::write(source.join("lib.rt"), "pub fn none() {}\n")?;
-        }
-        fs::write(root.join("crates.txt"), crates)?;
-        Ok(Project { root })
+        Ok(Project { root, listed })
     }
 
     /// The claims in these files that the toolchain refuses, each with what it says.
     fn check(&self, files: &[String]) -> Result<BTreeMap<String, String>, String> {
-        self.write(files).map_err(|why| format!("no claims could be written: {why}"))?;
-        let mut rt = Command::new("rt");
-        rt.arg("check").args(OWN.iter().take(files.len())).env("RT_CUT", "0").current_dir(&self.root);
-        let output = rt.output().map_err(|why| format!("rt could not be run: {why}"))?;
+        let own = &OWN[..OWN.len().min(files.len())];
+        self.write(own, files).map_err(|why| format!("no claims could be written: {why}"))?;
+        let output = Command::new("rt").arg("ci").current_dir(&self.root).output();
+        let output = output.map_err(|why| format!("rt could not be run: {why}"))?;
         let [said, noted] = [&output.stdout, &output.stderr].map(|out| String::from_utf8_lossy(out));
-        let refused = refused(&said);
-        match (output.status.code(), refused.is_empty()) {
-            (Some(0), true) | (Some(1), false) => Ok(refused),
+        let refused: Option<Vec<_>> = own.iter().map(|name| verdict(&said, name)).collect();
+        let refused = refused.map(|all| all.into_iter().flatten().collect::<BTreeMap<_, _>>());
+        match (output.status.code(), refused) {
+            (Some(0), Some(refused)) if refused.is_empty() => Ok(refused),
+            (Some(1), Some(refused)) if !refused.is_empty() => Ok(refused),
             _ => Err(format!("no verdict in {}, {}: {said}{noted}", self.root.display(), output.status)),
         }
     }
 
-    fn write(&self, files: &[String]) -> io::Result<()> {
-        for (k, name) in OWN.iter().enumerate() {
-            let proofs = self.root.join("crates").join(name).join("proofs");
-            if proofs.is_dir() {
-                fs::remove_dir_all(&proofs)?;
+    fn write(&self, own: &[&str], files: &[String]) -> io::Result<()> {
+        let mut listed = self.listed.clone();
+        for name in OWN {
+            let folder = self.root.join("crates").join(name);
+            if folder.is_dir() {
+                fs::remove_dir_all(&folder)?;
             }
+        }
+        for (k, name) in own.iter().enumerate() {
+            listed += &format!("{name}: {}\n", CITED.join(" "));
+            let [source, proofs] =
+                ["src", "proofs"].map(|part| self.root.join("crates").join(name).join(part));
+            fs::create_dir_all(&source)?;
+            fs::write(source.join("lib.rt"), SOURCE)?;
             fs::create_dir(&proofs)?;
             let mut modules = String::new();
-            for (n, file) in files.iter().enumerate().skip(k).step_by(OWN.len()) {
+            for (n, file) in files.iter().enumerate().skip(k).step_by(own.len()) {
                 fs::write(proofs.join(format!("Part{n}.antt")), file)?;
                 modules += &format!("pub mod Part{n}\n");
             }
             fs::write(proofs.join("Lib.antt"), modules)?;
         }
-        Ok(())
+        fs::write(self.root.join("crates.txt"), listed)
     }
 
     /// Asks for the numbers of each definition's answer that are others than the Rust's.
@@ -373,10 +389,48 @@ fn copy(from: &Path, to: &Path) -> io::Result<()> {
     Ok(())
 }
 
-/// The claims that the toolchain's output refuses: a line that names the claim, and the indented lines behind it.
-fn refused(said: &str) -> BTreeMap<String, String> {
+/// The lines of a crates.txt for these crates and all below them, each by its crate's name.
+fn below<'a>(all: &'a str, names: &[&str]) -> BTreeMap<&'a str, &'a str> {
+    let lines = all.lines().filter(|line| !line.starts_with('#'));
+    let crates: BTreeMap<&str, (&str, &str)> = lines
+        .filter_map(|line| {
+            let (name, libraries) = line.split_once(':')?;
+            Some((name.split_whitespace().next()?, (line, libraries)))
+        })
+        .collect();
+    let mut found = BTreeMap::new();
+    let mut wanted: Vec<&str> = names.to_vec();
+    while let Some(name) = wanted.pop() {
+        // one that is not listed is the toolchain's
+        if let Some((&name, &(line, libraries))) = crates.get_key_value(name)
+            && found.insert(name, line).is_none()
+        {
+            wanted.extend(libraries.split_whitespace());
+        }
+    }
+    found
+}
+
+/// What of a crate's claims the output of `rt ci` refuses; none where the crate was not judged to its end.
+fn verdict(said: &str, name: &str) -> Option<BTreeMap<String, String>> {
+    let [proved, kept] = [" proved", " is kept: "].map(|what| format!("rt: {name}{what}"));
+    if said.lines().any(|line| line == proved || line.starts_with(&kept)) {
+        return Some(BTreeMap::new());
+    }
+    let [start, end] = [format!("== {name}"), format!("rt: {name} NOT PROVED")];
+    let own: Vec<&str> =
+        said.lines().skip_while(|&line| line != start).take_while(|&line| line != end).collect();
+    let is_judged = |line: &&str| {
+        *line == "logic=not-proved" || line.starts_with("rattle: no verdict, since antt ran out of")
+    };
+    let refused = refused(&own);
+    (own.iter().any(is_judged) && !refused.is_empty()).then_some(refused)
+}
+
+/// The claims that these lines of the toolchain refuse: a line that names the claim, and the indented lines behind it.
+fn refused(said: &[&str]) -> BTreeMap<String, String> {
     let mut refused = BTreeMap::new();
-    let mut lines = said.lines().peekable();
+    let mut lines = said.iter().peekable();
     while let Some(line) = lines.next() {
         let Some((_, error)) = line.split_once(".antt:").filter(|(_, error)| error.contains(": error: "))
         else {

@@ -26,7 +26,7 @@ pub const TABLES: [Table; 3] = [
 -- What the Rust's `Invocation::effect` gives: `harness tables` writes it, and harness/tests/tables.rs holds it to the Rust.
 -- A row for each invocation, by its number 0 to 5; in it the number of the effect for a local with neither inv nor fork, with fork, with inv, with both.
 ",
-        rows: || vec![("rustInvocations", invocations())],
+        rows: || vec![("rust_invocations", invocations())],
     },
     Table {
         name: "RustWires",
@@ -36,7 +36,7 @@ pub const TABLES: [Table; 3] = [
 -- A row for a local with neither inv nor fork, with fork, with inv, with both, and in each for the effect inside, by its number 0 to 10; in it the effect
 -- outside, by its number. The half byte of the report: bit 0 wire present, 1 to 3 the triple in order; and bit 4: InfiniteLoop is said.
 ",
-        rows: || vec![("rustWires", wires())],
+        rows: || vec![("rust_wires", wires())],
     },
     Table {
         name: "RustErrors",
@@ -49,14 +49,14 @@ pub const TABLES: [Table; 3] = [
 -- Two steps: a row for the flags, the wire (none, triple 0, triple 7) and the first step; in it the second; each of Barrier, Read, Write, ReadWrite of another,
 -- and Transfer to an interface with the triple 1 or 4.
 ",
-        rows: || vec![("rustOneStep", one_step()), ("rustTwoSteps", two_steps())],
+        rows: || vec![("rust_one_step", one_step()), ("rust_two_steps", two_steps())],
     },
 ];
 
 impl Table {
     /// The file's text.
     pub fn text(&self) -> String {
-        let uses = "use mathlib.Core.List.{List, [], _∷_}\nuse Prim.Native.Nat.{ℕ}\n";
+        let uses = "use Rattle.std.specs.Prelude.{List, [], ◌∷◌, ℕ}\n";
         let row = |row: &Vec<u64>| {
             let numbers: String = row.iter().map(|n| format!("{n} ∷ ")).collect();
             format!("    ({numbers}[]) ∷\n")
