@@ -1,5 +1,5 @@
 /*
- * The calls of document 01, from the library that `rt staticlib ownership` writes.
+ * The calls of document 01, from the library that `rt lib` writes in crates/ownership_c.
  * Kept by hand; harness/commands/tests/header.rs compiles it.
  */
 #ifndef VINE_OWNERSHIP_H
