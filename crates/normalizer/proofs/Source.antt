@@ -19,7 +19,7 @@ use Rattle.image.specs.Vir.{Action, Layer, Stage, Vir, layer_of, stage_of}
 use Rattle.wellformed.specs.WellFormed.{layer_fits, stage_fits, action_fits, port_fits}
 use Rattle.normalizer.specs.Layered.{Layered}
 use Rattle.normalizer.proofs.Layering.{no_layer, parent_lower}
-use Rattle.normalizer.proofs.Members.{all_none, all_left, all_right, all-at, all_get_d, all_imp, all_both, all-concat}
+use Rattle.normalizer.proofs.Members.{all_none, all_left, all_right, all-at, all_get_or, all_imp, all_both, all-concat}
 use Rattle.normalizer.proofs.Whole.{whole}
 
 -- a step that fits, and that diverges to no layer above a number
@@ -76,7 +76,7 @@ module _ (v : Vir) (y : Layered v) where
     where
       exist : all (λ t. ltb t (length v.stages)) (layer_of v l).stages ≡ true
       exist =
-          all_get_d (λ (x : Layer). all (λ t. ltb t (length v.stages)) x.stages) (record { parent = none; stages = [] })
+          all_get_or (λ (x : Layer). all (λ t. ltb t (length v.stages)) x.stages) (record { parent = none; stages = [] })
           (all_none (λ (t : ℕ). ltb t (length v.stages))) v.layers
           (all_imp (layer_fits c) (λ (x : Layer). all (λ t. ltb t (length v.stages)) x.stages)
           (λ x h. right_true (or_none (length v.layers) x.parent) (all (λ t. ltb t (length v.stages)) x.stages) h) v.layers y.formed.layers)
