@@ -1,10 +1,7 @@
-use mathlib.Core.Path.{◌≡◌, ◌∙◌, refl, sym}
-use mathlib.Core.List.{List}
-use Prim.Native.Nat.{ℕ}
+use mathlib.Core.Path.{◌∙◌, refl, sym}
 use native.Mathlib.Omega.{arith}
-use lib.ListN.{length, length-map}
+use lib.ListN.{length-map}
 use Rattle.effect.specs.Effect.{effect_of}
-use Rattle.solve.specs.Tables.{relations_of, effects_of, Entered}
 use Rattle.solve.proofs.Reading.{entered_as}
 use Rattle.solve.proofs.Going.{going_start, held, takeable, takes_one, going_on, going_end}
 use Rattle.solve.proofs.fixed_point.Goals as goal
@@ -14,10 +11,8 @@ loop-w-init c = (refl, refl, going_start c.seed-w.ensures)
 
 pub take-w-requires : goal.take-w-requires
 take-w-requires c =
-    let seeds : List ℕ = c.args.effects.now in
-    let entered : Entered (relations_of c.args.relations.now c.args.held) (length (effects_of seeds))
-    c.args.relations.now c.args.starts.now c.args.entries.now = entered_as seeds c.requires.entered in
-    let many : length (effects_of seeds) ≡ length seeds = length-map seeds effect_of in
+    let entered = entered_as c.args.effects.now c.requires.entered in
+    let many = length-map c.args.effects.now effect_of in
     let l = c.loop-w in
     takeable l.invariant.2 entered c.loop-w-test.true (l.invariant.0 ∙ sym many)
     (omega (arith, many, c.requires.effects_in_bounds, l.invariant.1, c.seed-w.auto.stack))
@@ -25,10 +20,8 @@ take-w-requires c =
 
 pub loop-w-smaller : goal.loop-w-smaller
 loop-w-smaller c =
-    let seeds : List ℕ = c.args.effects.now in
-    let entered : Entered (relations_of c.args.relations.now c.args.held) (length (effects_of seeds))
-    c.args.relations.now c.args.starts.now c.args.entries.now = entered_as seeds c.requires.entered in
-    let many : length (effects_of seeds) ≡ length seeds = length-map seeds effect_of in
+    let entered = entered_as c.args.effects.now c.requires.entered in
+    let many = length-map c.args.effects.now effect_of in
     let l = c.loop-w in
     let q = c.take-w in
     omega (
@@ -41,9 +34,7 @@ loop-w-smaller c =
 
 pub loop-w-preserved : goal.loop-w-preserved
 loop-w-preserved c =
-    let seeds : List ℕ = c.args.effects.now in
-    let entered : Entered (relations_of c.args.relations.now c.args.held) (length (effects_of seeds))
-    c.args.relations.now c.args.starts.now c.args.entries.now = entered_as seeds c.requires.entered in
+    let entered = entered_as c.args.effects.now c.requires.entered in
     let l = c.loop-w in
     let q = c.take-w in (
       q.auto.effects ∙ l.invariant.0,

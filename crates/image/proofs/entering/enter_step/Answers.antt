@@ -12,57 +12,55 @@ use Rattle.image.specs.View.{view_of}
 use Rattle.image.proofs.Entered.{interface_lies, enters_none, enters_one}
 use Rattle.image.proofs.Passing.{pass-none, pass_one, count_none, count_one}
 use Rattle.image.proofs.entering.enter_step.Goals as goal
+use Rattle.image.proofs.entering.enter_step.Goals.{Else-s-p-ne6, After-u16_at-b, After-u16_at-m}
+
+-- the record that the step's bytes are
+abbrev own : List ℕ → Counts → ℕ → StepRecord
+own s counts k = step_at s (steps_at counts + 11 * k)
+
+-- it is a Transfer, to an interface that there is
+transfers : (c : Else-s-p-ne6) → (own c.args.s.now c.args.c c.args.k).tag ≡ 6
+transfers c = ap (u8_at c.args.s.now) (sym c.requires.p_value) ∙ c.if-s-p-ne6.false
+
+below : (c : Else-s-p-ne6) → (own c.args.s.now c.args.c c.args.k).b < c.args.c.interfaces
+below c = (c.requires.accepted.steps c.args.k c.requires.k_lt_steps).interface (transfers c)
+
+b_is : (c : After-u16_at-b) → c.u16_at-b.result ≡ (own c.args.s.now c.args.c c.args.k).b
+b_is c = c.u16_at-b.ensures ∙ ap (λ (p : ℕ). u16_at c.args.s.now (p + 5)) c.requires.p_value
+
+-- .. whose layer is read
+m_is : (c : After-u16_at-m) → c.u16_at-b.result ≡ (own c.args.s.now c.args.c c.args.k).b
+    → c.u16_at-m.result ≡ u16_at c.args.s.now (interfaces_at c.args.c + 9 * (own c.args.s.now c.args.c c.args.k).b)
+m_is c b = c.u16_at-m.ensures ∙ ap₂ (λ (i j : ℕ). u16_at c.args.s.now (i + 9 * j)) c.interfaces_at.ensures b
 
 pub returns-then-s-p-ne6 : goal.returns-then-s-p-ne6
 returns-then-s-p-ne6 c =
-    let s : List ℕ = c.args.s.now in
-    let counts : Counts = c.args.c in
-    let k : ℕ = c.args.k in
-    let place : c.args.p ≡ steps_at counts + 11 * k = c.requires.p_value in
-    let none-entered = enters_none s counts k (λ e. c.if-s-p-ne6.true (ap (u8_at s) place ∙ e)) in
-    (pass-none (enterable (view_of s counts) c.args.l) c.args.ok none-entered, count_none c.args.counts.now none-entered)
+    let none-entered = enters_none c.args.s.now c.args.c c.args.k (λ e. c.if-s-p-ne6.true (ap (u8_at c.args.s.now) c.requires.p_value ∙ e)) in
+    (pass-none (enterable (view_of c.args.s.now c.args.c) c.args.l) c.args.ok none-entered, count_none c.args.counts.now none-entered)
 
 pub u16_at-m-requires : goal.u16_at-m-requires
 u16_at-m-requires c =
-    let s : List ℕ = c.args.s.now in
-    let counts : Counts = c.args.c in
-    let k : ℕ = c.args.k in
-    let step : StepRecord = step_at s (steps_at counts + 11 * k) in
-    let place : c.args.p ≡ steps_at counts + 11 * k = c.requires.p_value in
-    let transfers : step.tag ≡ 6 = ap (u8_at s) (sym place) ∙ c.if-s-p-ne6.false in
-    let b-is : c.u16_at-b.result ≡ step.b = c.u16_at-b.ensures ∙ ap (λ (p : ℕ). u16_at s (p + 5)) place in
-    let below : step.b < counts.interfaces = (c.requires.accepted.steps k c.requires.k_lt_steps).interface transfers in
-    omega (arith, below, b-is, c.requires.accepted.sized.long, c.interfaces_at.ensures)
+    let at = goal.at.u16_at-m-requires c in
+    omega (arith, below at.Else-s-p-ne6, b_is at.After-u16_at-b, c.requires.accepted.sized.long, c.interfaces_at.ensures)
 
 pub enter-requires : goal.enter-requires
 enter-requires c =
-    let s : List ℕ = c.args.s.now in
-    let counts : Counts = c.args.c in
-    let k : ℕ = c.args.k in
-    let step : StepRecord = step_at s (steps_at counts + 11 * k) in
-    let place : c.args.p ≡ steps_at counts + 11 * k = c.requires.p_value in
-    let transfers : step.tag ≡ 6 = ap (u8_at s) (sym place) ∙ c.if-s-p-ne6.false in
-    let b-is : c.u16_at-b.result ≡ step.b = c.u16_at-b.ensures ∙ ap (λ (p : ℕ). u16_at s (p + 5)) place in
-    let below : step.b < counts.interfaces = (c.requires.accepted.steps k c.requires.k_lt_steps).interface transfers in
-    let m_is : c.u16_at-m.result ≡ u16_at s (interfaces_at counts + 9 * step.b) = c.u16_at-m.ensures ∙ ap₂ (λ (a b : ℕ). u16_at s (a + 9 * b)) c.interfaces_at.ensures b-is in
-    let m_below : c.u16_at-m.result < counts.layers = omega (arith, m_is, interface_lies s counts c.requires.c_value step.b below) in
+    let at = goal.at.enter-requires c in
     record {
       sized = c.requires.accepted.sized;
-      m_lt_layers = m_below;
+      m_lt_layers = omega (
+        arith,
+        m_is at.After-u16_at-m (b_is at.After-u16_at-b),
+        interface_lies c.args.s.now c.args.c c.requires.c_value (own c.args.s.now c.args.c c.args.k).b (below at.Else-s-p-ne6),
+      );
     }
 
 pub returns : goal.returns
 returns c =
-    let s : List ℕ = c.args.s.now in
-    let counts : Counts = c.args.c in
-    let k : ℕ = c.args.k in
-    let step : StepRecord = step_at s (steps_at counts + 11 * k) in
-    let place : c.args.p ≡ steps_at counts + 11 * k = c.requires.p_value in
-    let transfers : step.tag ≡ 6 = ap (u8_at s) (sym place) ∙ c.if-s-p-ne6.false in
-    let b-is : c.u16_at-b.result ≡ step.b = c.u16_at-b.ensures ∙ ap (λ (p : ℕ). u16_at s (p + 5)) place in
-    let below : step.b < counts.interfaces = (c.requires.accepted.steps k c.requires.k_lt_steps).interface transfers in
-    let m_is : c.u16_at-m.result ≡ u16_at s (interfaces_at counts + 9 * step.b) = c.u16_at-m.ensures ∙ ap₂ (λ (a b : ℕ). u16_at s (a + 9 * b)) c.interfaces_at.ensures b-is in
-    let entered : enters_of (view_of s counts) (action_at s counts k) ≡ c.u16_at-m.result ∷ [] = enters_one s counts k transfers below ∙ ap {B = List ℕ} (λ (m : ℕ). m ∷ []) (sym m_is) in (
-      pass_one (enterable (view_of s counts) c.args.l) c.args.ok entered c.enter.ensures.0,
+    let at = goal.at.returns c in
+    let entered : enters_of (view_of c.args.s.now c.args.c) (action_at c.args.s.now c.args.c c.args.k) ≡ c.u16_at-m.result ∷ [] =
+    enters_one c.args.s.now c.args.c c.args.k (transfers at.Else-s-p-ne6) (below at.Else-s-p-ne6)
+    ∙ ap {B = List ℕ} (λ (m : ℕ). m ∷ []) (sym (m_is at.After-u16_at-m (b_is at.After-u16_at-b))) in (
+      pass_one (enterable (view_of c.args.s.now c.args.c) c.args.l) c.args.ok entered c.enter.ensures.0,
       count_one c.args.counts.now entered c.enter.ensures.1,
     )
