@@ -8,7 +8,7 @@ use lib.Dec.{T, eqb, eqb→eq, eqb_refl, ltb, ltb→lt}
 use lib.ListN.{length, get_or}
 use Rattle.effect.specs.declared.Effect.{Effect}
 use Rattle.effect.specs.declared.Effect.TheVariants.{Pass as P, Barrier as B, PassBarrier as PB, ReadPass as RP, ReadBarrier as RB, ReadPassBarrier as RPB, BarrierWrite as BW, PassBarrierWrite as PBW, ReadBarrierWrite as RBW, ReadPassBarrierWrite as RPBW, Never as X}
-use Rattle.effect.specs.Effect.{number_of, effect_of, effects}
+use Rattle.effect.specs.Effect.{number_of, effect_of, effects, entry}
 
 -- a test that holds where the first fails, or where both hold
 abbrev pub implies : Bool → Bool → Bool
@@ -99,3 +99,8 @@ same→eq a b t = number_injective a b (eqb→eq (number_of a) (number_of b) t)
 
 pub eq→same : (a b : Effect) → a ≡ b → T (same a b)
 eq→same a b h = subst (λ (x : Effect). T (same a x)) h (eqb_refl (number_of a))
+
+-- what the code reads from a table that is the definition's
+pub read_off : (t u : List (List Effect)) → t ≡ u → (i j : ℕ) (a b : Effect) → i ≡ number_of a → j ≡ number_of b
+    → get_or (get_or t i []) j P ≡ entry u a b
+read_off t u e i j a b h k = rw (e, h, k) refl

@@ -1,12 +1,14 @@
-use mathlib.Core.Path.{ap₂}
-use mathlib.Core.List.{[]}
-use Prim.Native.Nat.{ℕ}
-use lib.ListN.{get_or}
-use Rattle.effect.specs.declared.Effect.TheVariants.{Pass}
-use Rattle.effect.specs.Effect.{join, JOIN}
+use mathlib.Core.Path.{◌≡◌, refl}
 use native.Mathlib.Omega.{arith}
-use Rattle.effect.proofs.Finite.{number_below}
+use Rattle.effect.specs.declared.TheConstants.{JOIN as TABLE}
+use Rattle.effect.specs.Effect.{join, JOIN}
+use Rattle.effect.proofs.Finite.{number_below, read_off}
 use Rattle.effect.proofs.Effect.join.Goals as goal
+
+-- the code's table is the definition's
+table : TABLE ≡ JOIN
+unfolding JOIN
+table = refl
 
 pub bounds-i : goal.bounds-i
 bounds-i c = omega (arith, number_below c.args.self, c.number-i.ensures)
@@ -15,5 +17,5 @@ pub bounds-j : goal.bounds-j
 bounds-j c = omega (arith, number_below c.args.other, c.number-j.ensures)
 
 pub returns : goal.returns
-unfolding join JOIN
-returns c = ap₂ (λ (i j : ℕ). get_or (get_or JOIN i []) j Pass) c.number-i.ensures c.number-j.ensures
+unfolding join
+returns c = read_off TABLE JOIN table _ _ c.args.self c.args.other c.number-i.ensures c.number-j.ensures

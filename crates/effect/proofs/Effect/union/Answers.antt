@@ -1,12 +1,14 @@
-use mathlib.Core.Path.{ap₂}
-use mathlib.Core.List.{[]}
-use Prim.Native.Nat.{ℕ}
-use lib.ListN.{get_or}
-use Rattle.effect.specs.declared.Effect.TheVariants.{Pass}
-use Rattle.effect.specs.Effect.{union, UNION}
+use mathlib.Core.Path.{◌≡◌, refl}
 use native.Mathlib.Omega.{arith}
-use Rattle.effect.proofs.Finite.{number_below}
+use Rattle.effect.specs.declared.TheConstants.{UNION as TABLE}
+use Rattle.effect.specs.Effect.{union, UNION}
+use Rattle.effect.proofs.Finite.{number_below, read_off}
 use Rattle.effect.proofs.Effect.union.Goals as goal
+
+-- the code's table is the definition's
+table : TABLE ≡ UNION
+unfolding UNION
+table = refl
 
 pub bounds-i : goal.bounds-i
 bounds-i c = omega (arith, number_below c.args.self, c.number-i.ensures)
@@ -15,5 +17,5 @@ pub bounds-j : goal.bounds-j
 bounds-j c = omega (arith, number_below c.args.other, c.number-j.ensures)
 
 pub returns : goal.returns
-unfolding union UNION
-returns c = ap₂ (λ (i j : ℕ). get_or (get_or UNION i []) j Pass) c.number-i.ensures c.number-j.ensures
+unfolding union
+returns c = read_off TABLE UNION table _ _ c.args.self c.args.other c.number-i.ensures c.number-j.ensures
