@@ -1,11 +1,11 @@
 -- A good record's lists end within their sections, so the running places stay small; and what judging answers by its test.
 use mathlib.Core.Path.{◌≡◌, ◌∙◌, sym, ap}
-use mathlib.Core.Bool.{Bool, true, false, cond, ◌&&◌, ◌||◌}
+use mathlib.Core.Bool.{Bool, true, false, not, cond, ◌&&◌, ◌||◌}
 use mathlib.Core.List.{List}
 use Prim.Native.Nat.{ℕ, ◌+◌, ◌≤◌}
 use native.Mathlib.Omega.{arith}
 use lib.Dec.{eqb}
-use borrow.Author.Tests.{eqb-true}
+use borrow.Author.Tests.{not-true, not-false, eqb-true}
 use Rattle.vir.specs.Interface.{kind_of}
 use Rattle.vir.specs.Step.{step_of}
 use Rattle.records.specs.declared.layout.Counts.{Counts}
@@ -19,11 +19,11 @@ use Rattle.rules.specs.Faults.{or_none, laid, ports_laid, refs_below, layer_fiel
 use Rattle.rules.proofs.Fits.{laid_next, stage_ports_fit}
 use Rattle.records.proofs.Guards.{left_true, right_true}
 
-pub judged_no : (g : Bool) (n : Running) (b : Bool) → b ≡ g → b ≡ false → Fault ≡ cond g (Next n) Fault
-judged_no g n b e h = sym (ap (λ (x : Bool). cond x (Next n) Fault) (sym e ∙ h))
+pub judged_no : (g : Bool) (n : Running) (b : Bool) → b ≡ g → not b ≡ true → Fault ≡ cond g (Next n) Fault
+judged_no g n b e h = sym (ap (λ (x : Bool). cond x (Next n) Fault) (sym e ∙ not-true b h))
 
-pub judged_next : (g : Bool) (n : Running) (b : Bool) → b ≡ g → b ≡ true → Next n ≡ cond g (Next n) Fault
-judged_next g n b e h = sym (ap (λ (x : Bool). cond x (Next n) Fault) (sym e ∙ h))
+pub judged_next : (g : Bool) (n : Running) (b : Bool) → b ≡ g → not b ≡ false → Next n ≡ cond g (Next n) Fault
+judged_next g n b e h = sym (ap (λ (x : Bool). cond x (Next n) Fault) (sym e ∙ not-false b h))
 
 module _ (s : List ℕ) (c : Counts) (r : Running) where
   pub layer-next : (l : LayerRecord) → layer_good s c r l ≡ true → r.refs + l.stages.count ≤ c.refs

@@ -1,12 +1,12 @@
-use Rattle.std.proofs.Common.{[], ◌∷◌}
+use Rattle.std.proofs.Common.{true, [], ◌∷◌}
 use Rattle.effect.specs.declared.Effect.TheVariants.{Barrier as B, PassBarrier as PB, ReadBarrier as RB, ReadPassBarrier as RPB, BarrierWrite as BW, PassBarrierWrite as PBW, ReadBarrierWrite as RBW, ReadPassBarrierWrite as RPBW}
 use Rattle.effect.specs.Effect.{barrier}
-use Rattle.effect.proofs.Flags.{listed, unlisted}
+use Rattle.effect.proofs.Flags.{arm, tagged, unlisted}
 use Rattle.effect.proofs.Effect.barrier.Goals as goal
 
 pub returns-in-Barrier : goal.returns-in-Barrier
 unfolding barrier
-returns-in-Barrier c = listed (B ∷ PB ∷ RB ∷ RPB ∷ BW ∷ PBW ∷ RBW ∷ RPBW ∷ []) c.args.self c.in-Barrier.is
+returns-in-Barrier c = arm barrier true (1 ∷ 2 ∷ 4 ∷ 5 ∷ 6 ∷ 7 ∷ 8 ∷ 9 ∷ []) tt c.args.self (tagged (B ∷ PB ∷ RB ∷ RPB ∷ BW ∷ PBW ∷ RBW ∷ RPBW ∷ []) c.args.self c.in-Barrier.is)
 
 pub returns-in_default : goal.returns-in_default
 unfolding barrier

@@ -1,12 +1,12 @@
-use Rattle.std.proofs.Common.{[], ◌∷◌}
+use Rattle.std.proofs.Common.{true, [], ◌∷◌}
 use Rattle.effect.specs.declared.Effect.TheVariants.{ReadPass as RP, ReadBarrier as RB, ReadPassBarrier as RPB, ReadBarrierWrite as RBW, ReadPassBarrierWrite as RPBW}
 use Rattle.effect.specs.Effect.{read}
-use Rattle.effect.proofs.Flags.{listed, unlisted}
+use Rattle.effect.proofs.Flags.{arm, tagged, unlisted}
 use Rattle.effect.proofs.Effect.read.Goals as goal
 
 pub returns-in-ReadPass : goal.returns-in-ReadPass
 unfolding read
-returns-in-ReadPass c = listed (RP ∷ RB ∷ RPB ∷ RBW ∷ RPBW ∷ []) c.args.self c.in-ReadPass.is
+returns-in-ReadPass c = arm read true (3 ∷ 4 ∷ 5 ∷ 8 ∷ 9 ∷ []) tt c.args.self (tagged (RP ∷ RB ∷ RPB ∷ RBW ∷ RPBW ∷ []) c.args.self c.in-ReadPass.is)
 
 pub returns-in_default : goal.returns-in_default
 unfolding read

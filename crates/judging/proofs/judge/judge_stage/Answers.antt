@@ -1,3 +1,5 @@
+use mathlib.Core.Path.{ap}
+use mathlib.Core.Bool.{not}
 use native.Mathlib.Omega.{arith}
 use Rattle.rules.specs.Faults.{stage_good}
 use Rattle.records.proofs.Guards.{guard_holds}
@@ -9,11 +11,11 @@ use Rattle.judging.proofs.judge.judge_stage.Goals.{Else-not-stage_good}
 placed : (c : Else-not-stage_good) → Placed c.args.s.now c.args.c c.args.r c.args.t
 placed c =
     stage-next c.args.s.now c.args.c c.args.r c.args.t
-    (guard_holds (stage_good c.args.s.now c.args.c c.args.r c.args.t) _ c.stage_good.ensures c.if-not-stage_good.false)
+    (guard_holds (stage_good c.args.s.now c.args.c c.args.r c.args.t) _ c.stage_good.ensures (ap not c.if-not-stage_good.false))
 
 pub returns-then-not-stage_good : goal.returns-then-not-stage_good
 returns-then-not-stage_good c =
-    judged_no (stage_good c.args.s.now c.args.c c.args.r c.args.t) _ _ c.stage_good.ensures c.if-not-stage_good.true
+    judged_no (stage_good c.args.s.now c.args.c c.args.r c.args.t) _ _ c.stage_good.ensures (ap not c.if-not-stage_good.true)
 
 pub overflow_add-result : goal.overflow_add-result
 overflow_add-result c = omega (arith, placed (goal.at.overflow_add-result c).Else-not-stage_good)
@@ -32,4 +34,4 @@ overflow_add-result-4 c = omega (arith, placed (goal.at.overflow_add-result-4 c)
 
 pub returns : goal.returns
 returns c =
-    judged_next (stage_good c.args.s.now c.args.c c.args.r c.args.t) _ _ c.stage_good.ensures c.if-not-stage_good.false
+    judged_next (stage_good c.args.s.now c.args.c c.args.r c.args.t) _ _ c.stage_good.ensures (ap not c.if-not-stage_good.false)

@@ -1,3 +1,4 @@
+use mathlib.Core.Bool.{not}
 use mathlib.Core.Path.{ap}
 use Prim.Native.Nat.{ℕ, ◌+◌, ◌*◌}
 use native.Mathlib.Omega.{arith}
@@ -8,11 +9,11 @@ use Rattle.rules.proofs.faults.interface_good.Goals as goal
 
 pub returns-then-not-interface_fields : goal.returns-then-not-interface_fields
 unfolding interface_good
-returns-then-not-interface_fields c = guard_no (interface_fields c.args.c c.args.r c.args.i) (entries_named c.args.s.now c.args.c c.args.i) _ c.interface_fields.ensures c.if-not-interface_fields.true
+returns-then-not-interface_fields c = guard_no (interface_fields c.args.c c.args.r c.args.i) (entries_named c.args.s.now c.args.c c.args.i) _ c.interface_fields.ensures (ap not c.if-not-interface_fields.true)
 
 pub entries_named-requires : goal.entries_named-requires
 entries_named-requires c =
-    let fine = guard_holds (interface_fields c.args.c c.args.r c.args.i) _ c.interface_fields.ensures c.if-not-interface_fields.false in
+    let fine = guard_holds (interface_fields c.args.c c.args.r c.args.i) _ c.interface_fields.ensures (ap not c.if-not-interface_fields.false) in
     record {
       at_value = ap (λ (at : ℕ). at + 2 * c.args.i.list.first) c.requires.at_value;
       count_in_bounds = omega (arith, c.requires.at_value, c.requires.s_len, interface-fits c.args.c c.args.r c.args.i fine);
@@ -22,5 +23,5 @@ entries_named-requires c =
 pub returns : goal.returns
 unfolding interface_good
 returns c =
-    guard_go (interface_fields c.args.c c.args.r c.args.i) (entries_named c.args.s.now c.args.c c.args.i) _ _ c.interface_fields.ensures c.if-not-interface_fields.false
+    guard_go (interface_fields c.args.c c.args.r c.args.i) (entries_named c.args.s.now c.args.c c.args.i) _ _ c.interface_fields.ensures (ap not c.if-not-interface_fields.false)
     c.entries_named.ensures

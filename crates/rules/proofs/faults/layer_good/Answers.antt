@@ -1,3 +1,4 @@
+use mathlib.Core.Bool.{not}
 use mathlib.Core.Path.{◌∙◌, ap}
 use Prim.Native.Nat.{ℕ, ◌+◌, ◌*◌}
 use native.Mathlib.Omega.{arith}
@@ -11,7 +12,7 @@ use Rattle.rules.proofs.faults.layer_good.Goals as goal
 
 pub returns-then-not-layer_fields : goal.returns-then-not-layer_fields
 unfolding layer_good
-returns-then-not-layer_fields c = guard_no (layer_fields c.args.c c.args.r c.args.l) (refs_below c.args.s.now c.args.c c.args.l.stages c.args.c.stages) _ c.layer_fields.ensures c.if-not-layer_fields.true
+returns-then-not-layer_fields c = guard_no (layer_fields c.args.c c.args.r c.args.l) (refs_below c.args.s.now c.args.c c.args.l.stages c.args.c.stages) _ c.layer_fields.ensures (ap not c.if-not-layer_fields.true)
 
 pub refs_below-requires : goal.refs_below-requires
 refs_below-requires c =
@@ -20,13 +21,13 @@ refs_below-requires c =
       c.requires.at_value,
       c.requires.s_len,
       layer_fits_lem c.args.c c.args.r c.args.l
-          (guard_holds (layer_fields c.args.c c.args.r c.args.l) _ c.layer_fields.ensures c.if-not-layer_fields.false),
+          (guard_holds (layer_fields c.args.c c.args.r c.args.l) _ c.layer_fields.ensures (ap not c.if-not-layer_fields.false)),
     )
 
 pub returns : goal.returns
 unfolding layer_good
 returns c =
-    guard_go (layer_fields c.args.c c.args.r c.args.l) (refs_below c.args.s.now c.args.c c.args.l.stages c.args.c.stages) _ _ c.layer_fields.ensures c.if-not-layer_fields.false
+    guard_go (layer_fields c.args.c c.args.r c.args.l) (refs_below c.args.s.now c.args.c c.args.l.stages c.args.c.stages) _ _ c.layer_fields.ensures (ap not c.if-not-layer_fields.false)
     (c.refs_below.ensures
     ∙ ap
     (λ (at : ℕ). every c.args.l.stages.count (λ k. ltb (u16_at c.args.s.now (at + 2 * c.args.l.stages.first + 2 * k)) c.args.c.stages))
