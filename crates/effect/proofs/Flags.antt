@@ -1,6 +1,6 @@
 -- What an arm of a `match` answers is the flag, by a test over all effects.
 use mathlib.Core.Path.{◌≡◌, refl, sym, ap, subst}
-use mathlib.Core.Bool.{Bool, true, false, not, beq, ◌||◌}
+use mathlib.Core.Bool.{Bool, true, false, not, beq}
 use mathlib.Core.Logic.{◌⊎◌, inl, inr}
 use mathlib.Core.List.{List, [], ◌∷◌, map}
 use Prim.Native.Nat.{ℕ}
