@@ -27,6 +27,11 @@ section_room s c Types z = omega (arith, z.long)
 section_room s c Steps z = omega (arith, z.long)
 section_room s c Ports z = omega (arith, z.long)
 
+-- a record, and what is ahead of it
+walk_step : (f : ℕ → Running → Judged) (size n p : ℕ) (r : Running) → walk f size (suc n) p r ≡ after p (f p r) (λ q. walk f size n (p + size) q)
+unfolding walk
+walk_step f size n p r = refl
+
 pub record Walking (s : List ℕ) (c : Counts) (x : Section) (target : Walked) (left p : ℕ) (r : Running) : Type 0 where
   pub room : p + size_of x * left ≤ length s
   pub ahead : walk (judge x s c) (size_of x) left p r ≡ target
@@ -43,19 +48,23 @@ module _ {s : List ℕ} {c : Counts} {x : Section} {target : Walked} where
   pub walking_fault : {left p : ℕ} {r : Running} → Walking s c x target left p r → (left ≡ 0 → ⊥) → judge x s c p r ≡ Fault → At p ≡ target
   unfolding walk
   walking_fault {left = zero} w h e = absurd (h refl)
-  walking_fault {left = suc n} {p} w h e = sym (ap (λ (j : Judged). after p j (λ q. walk (judge x s c) (size_of x) n (p + size_of x) q)) e) ∙ w.ahead
+  walking_fault {left = suc n} {p} {r} w h e =
+      sym (walk_step (judge x s c) (size_of x) n p r ∙ ap (λ (j : Judged). after p j (λ q. walk (judge x s c) (size_of x) n (p + size_of x) q)) e)
+      ∙ w.ahead
 
   pub walking_on : {left p : ℕ} {r q : Running} → Walking s c x target left p r → (left ≡ 0 → ⊥) → judge x s c p r ≡ Next q
       → Walking s c x target (left - 1) (p + size_of x) q
   unfolding walk
   walking_on {left = zero} w h e = absurd (h refl)
-  walking_on {left = suc n} {p} {q = q} w h e =
+  walking_on {left = suc n} {p} {r} {q} w h e =
       let pred : suc n - 1 ≡ n = omega arith in
       record {
         room = omega (arith, w.room, ap (λ (k : ℕ). size_of x * k) pred);
         ahead =
             ap (λ (k : ℕ). walk (judge x s c) (size_of x) k (p + size_of x) q) pred
-            ∙ sym (ap (λ (j : Judged). after p j (λ y. walk (judge x s c) (size_of x) n (p + size_of x) y)) e) ∙ w.ahead;
+            ∙ sym (walk_step (judge x s c) (size_of x) n p r
+            ∙ ap (λ (j : Judged). after p j (λ y. walk (judge x s c) (size_of x) n (p + size_of x) y)) e)
+            ∙ w.ahead;
       }
 
   pub walking_next : {left p size : ℕ} {r q : Running} → size ≡ size_of x → Walking s c x target left p r → (left ≡ 0 → ⊥) → judge x s c p r ≡ Next q
