@@ -46,7 +46,6 @@ module _ {s : List ℕ} {c : Counts} {x : Section} {target : Walked} where
   walking_room {left = suc n} w h = omega (arith, w.room)
 
   pub walking_fault : {left p : ℕ} {r : Running} → Walking s c x target left p r → (left ≡ 0 → ⊥) → judge x s c p r ≡ Fault → At p ≡ target
-  unfolding walk
   walking_fault {left = zero} w h e = absurd (h refl)
   walking_fault {left = suc n} {p} {r} w h e =
       sym (walk_step (judge x s c) (size_of x) n p r ∙ ap (λ (j : Judged). after p j (λ q. walk (judge x s c) (size_of x) n (p + size_of x) q)) e)
@@ -54,7 +53,6 @@ module _ {s : List ℕ} {c : Counts} {x : Section} {target : Walked} where
 
   pub walking_on : {left p : ℕ} {r q : Running} → Walking s c x target left p r → (left ≡ 0 → ⊥) → judge x s c p r ≡ Next q
       → Walking s c x target (left - 1) (p + size_of x) q
-  unfolding walk
   walking_on {left = zero} w h e = absurd (h refl)
   walking_on {left = suc n} {p} {r} {q} w h e =
       let pred : suc n - 1 ≡ n = omega arith in
