@@ -2,6 +2,7 @@
 use Rattle.std.specs.Prelude.{◌≡◌, Bool, List, ℕ, ◌≤◌, length, take}
 use Rattle.records.specs.declared.layout.Counts.{Counts}
 use Rattle.image.specs.Vir.{Vir}
+use Rattle.solve.specs.declared.Relation.{Relation}
 use Rattle.solve.specs.declared.Solved.{Solved}
 use Rattle.solve.specs.FixedPoint.{fixed_point}
 use Rattle.solve.specs.Tables.{relations_of, end_of, Entered}
@@ -13,11 +14,11 @@ use Rattle.building.specs.Fill.{Fillable}
 use Rattle.building.specs.Tables.{Held}
 
 -- the network of the image, and the relations entered at each variable
-pub record Solvable (v : Vir) (c : Counts) (z : Built) (r st en b t d : List ℕ) : Type 0 where
+pub record Solvable (v : Vir) (c : Counts) (z : Built) (r : List Relation) (st en b : List ℕ) (t d : List (List ℕ)) : Type 0 where
   pub held : Held (network_of v) r b t d z
   pub apart : Apart (network_of v)
   pub fillable : Fillable c.stages z t d
-  pub entered : Entered (relations_of r z.relations) z.vars r st en
+  pub entered : Entered (relations_of r z.relations) z.vars st en
   pub based : z.vars ≤ length b
   pub few : z.vars ≤ 7937
 

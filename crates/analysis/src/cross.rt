@@ -19,7 +19,6 @@ pub fn cross(
     requires interfaces_bound { (2 * c.interfaces < z.vars) × (z.vars ≤ length effects.now) }
     ensures { Crossed c.interfaces incoming.now inv fork (take z.vars effects.now) wires.new result }
 {
-    let n = z.vars as usize;
-    let found = &effects[..n];
+    let found = &effects[..z.vars as usize];
     set_wires(c.interfaces as usize, incoming, inv, fork, found, wires)
 }

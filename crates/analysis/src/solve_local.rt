@@ -1,45 +1,30 @@
 // The first half of `process_local`: the effects of one local, from its seeds to the end of the worklist.
 ghost use Rattle.std.specs.Prelude.{◌*◌, ◌≤◌, length};
 ghost use Rattle.image.specs.View.{view};
-ghost use Rattle.reading.specs.Image.{Image};
 ghost use Rattle.analysis.specs.Solving.{Solvable, SolvedFor};
 
-use building::built::Built;
+use building::built::{Built, Seeds};
 use building::fill::fill_segments;
-use records::layout::Counts;
-use solve::{Solved, fixed_point};
+use image::accepted::Image;
+use solve::{Relations, Solved, fixed_point};
 use vir::ids::Local;
 
 pub fn solve_local(
-    s: &[u8],
-    c: Counts,
+    image: &Image,
     l: Local,
     inv: bool,
     z: Built,
-    relations: &[u16],
-    starts: &[u16],
-    entries: &[u16],
-    base: &[u8],
-    touches: &[u16],
-    disconnects: &[u16],
+    relations: Relations,
+    seeds: Seeds,
     effects: &mut [u8],
     stack: &mut [u16],
 ) -> Solved
-    requires image { Image s.now c }
-    requires solvable { Solvable (view s.now) c z relations.now starts.now entries.now base.now touches.now disconnects.now }
+    requires solvable { Solvable (view image.now.records.bytes.now) image.now.records.counts z relations.rows.now relations.starts.now relations.entries.now seeds.base.now seeds.touches.now seeds.disconnects.now }
     requires vars_in_bounds { (z.vars ≤ length effects.old) × (4 * z.vars ≤ length stack.old) }
-    ensures { SolvedFor (view s.now) l.0 inv z.vars effects.new result }
+    ensures { SolvedFor (view image.now.records.bytes.now) l.0 inv z.vars effects.new result }
 {
-    fill_segments(s, c, l, inv, z, base, touches, disconnects, effects);
-    let n = z.vars as usize;
-    let seeds = &mut effects[..n];
-    fixed_point(
-        inv,
-        relations,
-        z.relations as usize,
-        starts,
-        entries,
-        seeds,
-        stack,
-    )
+    fill_segments(image, l, inv, z, seeds, effects);
+    let filled = &mut effects[..z.vars as usize];
+    let rows = &relations.rows[..z.relations as usize];
+    fixed_point(inv, Relations { rows, ..relations }, filled, stack)
 }

@@ -1,7 +1,6 @@
 pub mod Agreeing
 pub mod AgreeingTables
 pub mod Arrivals
-pub mod Clearing
 pub mod Computed
 pub mod Counts
 pub mod Cuts

@@ -10,7 +10,7 @@ use Rattle.vir.specs.Step.{Invoked, invoke_of}
 use Rattle.image.specs.LayerRules.{transfer_to}
 use Rattle.image.specs.Loops.{each, up_to, down_from}
 use Rattle.image.specs.Vir.{Action, Interface, Local, Stage, Vir}
-use Rattle.solve.specs.FixedPoint.{Relation}
+use Rattle.solve.specs.declared.Relation.{Relation}
 
 -- what one step does to one local
 pub record Touch : Type 0 where

@@ -4,50 +4,47 @@
 // then n bytes where there are any. Little-endian. A failed read or write ends the run with its error.
 #![tactic(auto)]
 
-ghost use Rattle.std.specs.Prelude.{◌≡◌, ◌≤◌, ◌<◌, length};
 ghost use Rattle.std.specs.Io.{ReadsAtMost};
 
 use image::answer::Answer;
 use image::check::check_long;
 use ownership::vine_check;
 use records::bytes::u32_at;
-use std::io;
+use records::layout::HEAD;
+use std::error::Error;
 use std::io::{Read, Write};
+use std::{fmt, io};
 
-// How reading a frame ended.
-#[derive(Drop)]
-enum Frame {
-    Answered,
-    Ended,
-    Short,
-    Unknown,
+// The one call that is answered.
+const CHECK: u8 = 0;
+
+// The length of the longest image that can be accepted.
+const LARGEST: usize = 63893;
+
+// Why a run ends before its input.
+#[derive(Debug, Drop)]
+enum BatchError {
+    Io(io::Error),
+    CutShort,
+    UnknownCall,
 }
 
-fn byte(v: u32, weight: u32) -> u8
-    requires { 0 < weight }
-{
-    (v / weight % 256) as u8
+impl fmt::Display for BatchError {
+    fn fmt<W: fmt::Write>(&self, f: &mut fmt::Formatter<W>) -> fmt::Result {
+        match self {
+            BatchError::Io(e) => write!(f, "batch: {e}"),
+            BatchError::CutShort => write!(f, "batch: a frame is cut short"),
+            BatchError::UnknownCall => write!(f, "batch: an unknown call"),
+        }
+    }
 }
 
-// An answer is flushed at once, for a caller that waits for it before its next frame.
-fn write_answer<W: Write>(output: &mut W, a: Answer) -> io::Result<Frame> {
-    let out = [
-        byte(a.code, 1),
-        byte(a.code, 256),
-        byte(a.code, 65536),
-        byte(a.code, 16777216),
-        byte(a.place, 1),
-        byte(a.place, 256),
-        byte(a.place, 65536),
-        byte(a.place, 16777216),
-        byte(a.kind, 1),
-        byte(a.kind, 256),
-        byte(a.kind, 65536),
-        byte(a.kind, 16777216),
-    ];
-    output.write_all(&out)?;
-    output.flush()?;
-    Ok(Frame::Answered)
+impl Error for BatchError {}
+
+impl From<io::Error> for BatchError {
+    fn from(e: io::Error) -> BatchError {
+        BatchError::Io(e)
+    }
 }
 
 // Reads until the buffer is full or the input ends, and returns how many bytes it put at the start of the buffer.
@@ -56,134 +53,111 @@ fn read_full<R: Read>(input: &mut R, buffer: &mut [u8]) -> io::Result<usize>
 {
     let mut done = 0;
     while done < buffer.len() {
-        let got = input.read(&mut buffer[done..])?;
-        if got == 0 {
-            break;
+        match input.read(&mut buffer[done..])? {
+            0 => break,
+            got => done += got,
         }
-        done += got;
     }
     Ok(done)
 }
 
-// Reads past so many bytes; whether they were there.
-fn skip<R: Read>(input: &mut R, left: usize, buffer: &mut [u8]) -> io::Result<bool>
-    requires { length buffer.old ≡ 63893 }
-{
-    let mut rest = left;
-    while 63893 < rest {
-        if read_full(input, buffer)? != 63893 {
-            return Ok(false);
-        }
-        rest -= 63893;
+// Fills the buffer. (`read_exact` would go on after an interrupted read, which ends a run as any failed one does.)
+fn fill<R: Read>(input: &mut R, buffer: &mut [u8]) -> Result<(), BatchError> {
+    if read_full(input, buffer)? == buffer.len() {
+        Ok(())
+    } else {
+        Err(BatchError::CutShort)
     }
-    Ok(read_full(input, &mut buffer[..rest])? == rest)
 }
 
-// An image longer than any accepted one is answered by its first bytes; the rest is read past.
-fn answer_long<R: Read, W: Write>(
+// Reads past so many bytes.
+fn skip<R: Read>(
     input: &mut R,
-    output: &mut W,
-    size: usize,
-    buffer: &mut [u8],
-) -> io::Result<Frame>
-    requires buffer_len { length buffer.old ≡ 63893 }
-    requires lt_size { 63893 < size }
-{
-    let mut head = [0u8; 21];
-    if read_full(input, &mut head)? != 21 {
-        return Ok(Frame::Short);
+    count: usize,
+    buffer: &mut [u8; LARGEST],
+) -> Result<(), BatchError> {
+    for _ in 0..count / LARGEST {
+        fill(input, buffer)?;
     }
-    if !skip(input, size - 21, buffer)? {
-        return Ok(Frame::Short);
-    }
-    write_answer(output, check_long(&head))
+    fill(input, &mut buffer[..count % LARGEST])
 }
 
-fn answer_short<R: Read, W: Write>(
-    input: &mut R,
-    output: &mut W,
-    size: usize,
-    buffer: &mut [u8],
-) -> io::Result<Frame>
-    requires buffer_len { length buffer.old ≡ 63893 }
-    requires size_bound { size ≤ 63893 }
-{
-    if read_full(input, &mut buffer[..size])? != size {
-        return Ok(Frame::Short);
-    }
-    write_answer(output, vine_check(&buffer[..size]))
+// What a frame begins with, but for the span, which check does not ask for.
+#[derive(Clone, Copy)]
+struct Header {
+    call: u8,
+    length: usize,
 }
 
-fn answer_frame<R: Read, W: Write>(
-    input: &mut R,
-    output: &mut W,
-    buffer: &mut [u8],
-) -> io::Result<Frame>
-    requires { length buffer.old ≡ 63893 }
-{
-    let mut head = [0u8; 9];
-    let got = read_full(input, &mut head)?;
-    if got == 0 {
-        return Ok(Frame::Ended);
-    }
-    if got != 9 {
-        return Ok(Frame::Short);
-    }
-    if head[0] != 0 {
-        return Ok(Frame::Unknown);
-    }
-    let size = u32_at(&head, 5) as usize;
-    if 63893 < size {
-        return answer_long(input, output, size, buffer);
-    }
-    answer_short(input, output, size, buffer)
-}
-
-// Whether to go on; a frame that cannot be answered is said in a line.
-fn answered<R: Read, W: Write, E: Write>(
-    input: &mut R,
-    output: &mut W,
-    errors: &mut E,
-    buffer: &mut [u8],
-) -> io::Result<bool>
-    requires { length buffer.old ≡ 63893 }
-{
-    match answer_frame(input, output, buffer)? {
-        Frame::Answered => Ok(true),
-        Frame::Ended => Ok(false),
-        Frame::Short => {
-            errors.write_all(b"batch: a frame is cut short\n")?;
-            Ok(false)
-        }
-        Frame::Unknown => {
-            errors.write_all(b"batch: an unknown call\n")?;
-            Ok(false)
+impl Header {
+    // None where the input ends before it.
+    fn read<R: Read>(input: &mut R) -> Result<Option<Header>, BatchError> {
+        let mut head = [0; 9];
+        match read_full(input, &mut head)? {
+            0 => Ok(None),
+            9 => Ok(Some(Header {
+                call: head[0],
+                length: u32_at(&head, 5) as usize,
+            })),
+            _ => Err(BatchError::CutShort),
         }
     }
 }
 
-fn answer_all<R: Read, W: Write, E: Write>(
+// Checks the image of so many bytes that comes next.
+fn check_next<R: Read>(
     input: &mut R,
-    output: &mut W,
-    errors: &mut E,
-    buffer: &mut [u8],
-) -> io::Result<()>
-    requires { length buffer.old ≡ 63893 }
-{
+    length: usize,
+    buffer: &mut [u8; LARGEST],
+) -> Result<Answer, BatchError> {
+    if length <= LARGEST {
+        let image = &mut buffer[..length];
+        fill(input, image)?;
+        return Ok(vine_check(image));
+    }
+    // longer than any accepted one, it is answered by its first bytes; the rest is read past
+    let mut front = [0; HEAD];
+    fill(input, &mut front)?;
+    skip(input, length - HEAD, buffer)?;
+    Ok(check_long(&front))
+}
+
+// An answer is flushed at once, for a caller that waits for it before its next frame.
+fn write_answer<W: Write>(output: &mut W, answer: Answer) -> io::Result<()> {
+    let numbers = [answer.code, answer.place, answer.kind].map(u32::to_le_bytes);
+    output.write_all(numbers.as_flattened())?;
+    output.flush()
+}
+
+fn answer_all<R: Read, W: Write>(input: &mut R, output: &mut W) -> Result<(), BatchError> {
+    let mut buffer = [0; LARGEST];
     // a proved loop has to end; no run has so many frames
-    let mut left = u64::MAX;
-    while left > 0 && answered(input, output, errors, buffer)? {
-        left -= 1;
+    for _ in 0..u64::MAX {
+        let Some(header) = Header::read(input)? else {
+            break;
+        };
+        if header.call != CHECK {
+            return Err(BatchError::UnknownCall);
+        }
+        let answer = check_next(input, header.length, &mut buffer)?;
+        write_answer(output, answer)?;
     }
     Ok(())
 }
 
+// A frame that cannot be answered ends the run with a line that says why, and is no failure of the run's.
+fn run<R: Read, W: Write, E: Write>(
+    input: &mut R,
+    output: &mut W,
+    errors: &mut E,
+) -> io::Result<()> {
+    match answer_all(input, output) {
+        Ok(()) => Ok(()),
+        Err(BatchError::Io(e)) => Err(e),
+        Err(refusal) => writeln!(errors, "{refusal}"),
+    }
+}
+
 fn main(rt: HostRuntime) -> io::Result<()> {
-    let mut buffer = [0u8; 63893];
-    answer_all(
-        &mut rt.stdin(),
-        &mut rt.stdout(),
-        &mut rt.stderr(),
-        &mut buffer,
-    )
+    run(&mut rt.stdin(), &mut rt.stdout(), &mut rt.stderr())
 }

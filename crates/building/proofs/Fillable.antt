@@ -1,7 +1,7 @@
 -- Tables that hold what build makes are tables that fill_segments takes.
 use mathlib.Core.Path.{◌≡◌, ◌∙◌, sym, ap, subst}
 use mathlib.Core.List.{List, [], ◌∷◌, map}
-use Prim.Native.Nat.{ℕ, ◌*◌, ◌<◌, ◌≤◌}
+use Prim.Native.Nat.{ℕ, ◌<◌, ◌≤◌}
 use native.Mathlib.Omega.{arith}
 use native.Mathlib.Nat.{zero-add}
 use lib.ListN.{length, get_or}
@@ -32,9 +32,9 @@ by_row P row n l e h k b =
     subst P (ap (λ xs. get_or xs k (row 0)) (sym e) ∙ get_or-collect row (row 0) 0 n k b ∙ ap row (zero-add k))
     (each_at P l k (row 0) h (omega (arith, b, length-collect row 0 n, ap length e)))
 
-module _ {n : Network} {b t d : List ℕ} {z : Built} (seeded : Seeded n b t d z) (sizes : Sizes n) (stages : ℕ) where
+module _ {n : Network} {b : List ℕ} {t d : List (List ℕ)} {z : Built} (seeded : Seeded n b t d z) (sizes : Sizes n) (stages : ℕ) where
   pub fillable : ((k : ℕ) (x : Disconnect) → k < length n.disconnects → (get_or n.disconnects k x).stage < stages)
-      → 3 * z.touches ≤ length t → 3 * z.disconnects ≤ length d → Fillable stages z t d
+      → z.touches ≤ length t → z.disconnects ≤ length d → Fillable stages z t d
   fillable staged ht hd =
       record {
         touches = ht;

@@ -1,16 +1,19 @@
 -- Rows one after the other, and what all of them make of the shared seeds: what fill_segments is to make.
 use mathlib.Core.Path.{◌≡◌, ◌∙◌, refl, sym, ap, ap₂}
 use mathlib.Core.Bool.{Bool, true, false}
-use mathlib.Core.List.{List, [], ◌∷◌}
-use Prim.Native.Nat.{ℕ, ◌+◌, ◌<◌, ◌≤◌}
+use mathlib.Core.List.{List, [], ◌∷◌, ◌++◌}
+use Prim.Native.Nat.{ℕ, zero, suc, ◌+◌, ◌<◌, ◌≤◌}
 use native.Mathlib.Numerals.{add-one}
 use native.Mathlib.Omega.{arith}
 use borrow.Author.Tests.{eq-eqb, ne_eqb}
 use lib.Dec.{eqb}
-use lib.ListN.{length, set, take}
+use lib.ListN.{length, get_or, get_or-eq_default, set, take}
+use lib.Seq.{get_or-take, length-take-le, take_at}
+use Rattle.std.proofs.Common.{Result, Ok, Err, MatchResult}
+use Rattle.std.specs.Result.{OkIff}
 use Rattle.effect.specs.declared.Effect.{Effect}
 use Rattle.effect.specs.declared.Effect.TheVariants.{Pass, Never}
-use Rattle.effect.specs.Effect.{number_of}
+use Rattle.effect.specs.Effect.{effects, number_of, effect_of}
 use Rattle.image.specs.Kind.{concat}
 use Rattle.image.specs.Loops.{each}
 use Rattle.image.specs.View.{collect}
@@ -21,102 +24,56 @@ use Rattle.solve.proofs.Stack.{effect_stored}
 use Rattle.analyzer.specs.Build.{Disconnect, Network}
 use Rattle.analyzer.specs.Fill.{contains, joined, fill_segments}
 use Rattle.analyzer.specs.Marks.{Apart}
-use Rattle.analyzer.specs.Seeds.{flat_touches}
+use Rattle.analyzer.specs.Seeds.{TouchAt, flat_touches}
 use Rattle.analyzer.proofs.Cuts.{exchange}
 use Rattle.analyzer.proofs.Loops.{collect_last, when, each_append}
 use Rattle.analyzer.proofs.Seeds.{fill_is}
 use Rattle.analyzer.proofs.Touches.{join_into}
 use Rattle.building.specs.declared.built.Built.{Built}
-use Rattle.building.specs.Fill.{join_touch, exchange_at, Within, Filled}
+use Rattle.building.specs.Fill.{join_touch, exchange_at, Fillable, Filled}
 use Rattle.building.specs.Tables.{touch_row, disconnect_row, Seeded}
+
+-- a number of 16 bits, told as one of eight
+pub effect_told : {E : Type 0} (n : ℕ) (x : Result ℕ E) (r : Effect) → OkIff x (n < 256) n → MatchResult x (λ m. r ≡ effect_of m) (λ _. r ≡ Never)
+    → r ≡ effect_of n
+unfolding effect_of
+effect_told n (Ok m) r h p = p ∙ ap effect_of h.1
+effect_told n (Err e) r h p = p ∙ sym (get_or-eq_default effects Never {n = n} (omega arith))
 
 -- ---- a loop over rows
 
--- k rows of so many are done
-pub record Rowing {A : Type 0} (f : A → List Effect → List Effect) (row : ℕ → A) (count : ℕ) (from es : List ℕ) (k : ℕ) : Type 0 where
-  pub reached : k ≤ count
-  pub sized : length es ≡ length from
-  pub stands : effects_of es ≡ each f (collect row 0 k) (effects_of from)
-
-pub rowing_start : {A : Type 0} {f : A → List Effect → List Effect} {row : ℕ → A} {count : ℕ} {es : List ℕ} → Rowing f row count es es 0
-unfolding each collect
-rowing_start = record { reached = omega arith; sized = refl; stands = refl }
-
-module _ {A : Type 0} {f : A → List Effect → List Effect} {row : ℕ → A} {count : ℕ} {from es : List ℕ} {k : ℕ}
-    (w : Rowing f row count from es k) where
-  pub rowing_on : {es' : List ℕ} → k < count → length es' ≡ length es → effects_of es' ≡ f (row k) (effects_of es)
-      → Rowing f row count from es' (k + 1)
-  unfolding each
-  rowing_on h l p =
-      record {
-        reached = omega arith;
-        sized = l ∙ w.sized;
-        stands =
-            p
-            ∙ ap (f (row k)) w.stands
-            ∙ sym (each_append f (collect row 0 k) (row k ∷ []) (effects_of from))
-            ∙ ap (λ (xs : List A). each f xs (effects_of from)) (sym (collect_last row k))
-            ∙ ap (λ (n : ℕ). each f (collect row 0 n) (effects_of from)) (sym (add-one k));
-      }
-
-  pub rowing_end : count ≤ k → effects_of es ≡ each f (collect row 0 count) (effects_of from)
-  rowing_end h =
-      let all : k ≡ count = omega (arith, w.reached) in
-      w.stands ∙ ap (λ (n : ℕ). each f (collect row 0 n) (effects_of from)) all
+-- one row more
+pub rows_on : {A : Type 0} (f : A → List Effect → List Effect) (row : ℕ → A) (k : ℕ) (from : List Effect) {before after : List Effect}
+    → before ≡ each f (collect row 0 k) from → after ≡ f (row k) before → after ≡ each f (collect row 0 (k + 1)) from
+unfolding each
+rows_on f row k from w p =
+    p
+    ∙ ap (f (row k)) w
+    ∙ sym (each_append f (collect row 0 k) (row k ∷ []) from)
+    ∙ ap (λ xs. each f xs from) (sym (collect_last row k))
+    ∙ ap (λ (n : ℕ). each f (collect row 0 n) from) (sym (add-one k))
 
 -- ---- a row
 
-module _ (inv : Bool) (l : ℕ) (t : List ℕ) (k : ℕ) (es : List ℕ) where
-  by_touch : (b : Bool) → eqb (touch_row t k).local l ≡ b
-      → join_touch inv l (touch_row t k) (effects_of es)
-      ≡ elim b [
-        | true ↦ set (effects_of es) (touch_row t k).var (joined inv (touch_row t k).effect (effect_at (effects_of es) (touch_row t k).var))
-        | false ↦ effects_of es
-      ]
-  by_touch b e =
-      ap (λ (b : Bool). elim b [
-        | true ↦ set (effects_of es) (touch_row t k).var (joined inv (touch_row t k).effect (effect_at (effects_of es) (touch_row t k).var))
-        | false ↦ effects_of es
-      ]) e
+module _ (inv : Bool) (l : ℕ) (m : TouchAt) (es : List ℕ) where
+  pub touch_passed : (m.local ≡ l → ⊥) → effects_of es ≡ join_touch inv l m (effects_of es)
+  touch_passed h = rw (ne_eqb m.local l h, join_touch)
 
-  module _ (of : ℕ) (o : of ≡ (touch_row t k).local) where
-    pub touch_passed : (of ≡ l → ⊥) → effects_of es ≡ join_touch inv l (touch_row t k) (effects_of es)
-    touch_passed h = sym (by_touch false (ne_eqb _ l (λ e. h (o ∙ e))))
+  -- with the number that the code stores
+  pub touch_joined : {n : ℕ} {e : Effect} → m.local ≡ l → n ≡ number_of e → e ≡ joined inv m.effect (effect_at (effects_of es) m.var)
+      → effects_of (set es m.var n) ≡ join_touch inv l m (effects_of es)
+  touch_joined {n} {e} h p q = rw (eq-eqb m.local l h, p, join_touch) (effect_stored es m.var e ∙ ap (set (effects_of es) m.var) q)
 
-    -- with the code's values
-    pub touch_joined : (var n : ℕ) (e : Effect) → of ≡ l → var ≡ (touch_row t k).var → n ≡ number_of e
-        → e ≡ joined inv (touch_row t k).effect (effect_at (effects_of es) var)
-        → effects_of (set es var n) ≡ join_touch inv l (touch_row t k) (effects_of es)
-    touch_joined var n e h p q r =
-        ap (λ (n : ℕ). effects_of (set es var n)) q
-        ∙ effect_stored es var e
-        ∙ ap (set (effects_of es) var) r
-        ∙ ap (λ (x : ℕ). set (effects_of es) x (joined inv (touch_row t k).effect (effect_at (effects_of es) x))) p
-        ∙ sym (by_touch true (eq-eqb _ l (sym o ∙ h)))
+module _ (v : Vir) (l : ℕ) (d : Disconnect) (es : List ℕ) where
+  pub exchange_passed : contains (stage_of v d.stage).declarations l ≡ false → effects_of es ≡ exchange_at v l d (effects_of es)
+  exchange_passed e = rw (e, exchange_at)
 
-module _ (v : Vir) (l : ℕ) (d : List ℕ) (k : ℕ) (es : List ℕ) (b : Bool) where
-  abbrev here : Disconnect
-  here = disconnect_row d k
-
-  by-stage : (q : Bool) → b ≡ contains (stage_of v here.stage).declarations l → b ≡ q
-      → elim q [ true ↦ exchange here (effects_of es) | false ↦ effects_of es ] ≡ exchange_at v l here (effects_of es)
-  by-stage q p e = ap (λ (b : Bool). elim b [ true ↦ exchange here (effects_of es) | false ↦ effects_of es ]) (sym e ∙ p)
-
-  module _ (p : b ≡ contains (stage_of v here.stage).declarations l) where
-    pub exchange_passed : b ≡ false → effects_of es ≡ exchange_at v l here (effects_of es)
-    exchange_passed e = by-stage false p e
-
-    pub exchange_done : (x y : ℕ) → b ≡ true → x ≡ here.connected → y ≡ here.disconnected
-        → effects_of (set (set es x 10) y 0) ≡ exchange_at v l here (effects_of es)
-    exchange_done x y e f g =
-        effect_stored (set es x 10) y Pass
-        ∙ ap (λ (s : List Effect). set s y Pass) (effect_stored es x Never)
-        ∙ ap₂ (λ (x y : ℕ). set (set (effects_of es) x Never) y Pass) f g
-        ∙ by-stage true p e
-
--- .. where as many variables are named otherwise
-pub within_as : {stages m n : ℕ} {d : Disconnect} → m ≡ n → Within stages m d → Within stages n d
-within_as e w = record { stage = w.stage; connected = omega (arith, w.connected, e); disconnected = omega (arith, w.disconnected, e) }
+  pub exchange_done : {m n : ℕ} → contains (stage_of v d.stage).declarations l ≡ true → m ≡ number_of Never → n ≡ number_of Pass
+      → effects_of (set (set es d.connected m) d.disconnected n) ≡ exchange_at v l d (effects_of es)
+  exchange_done {m} {n} e p q =
+      rw (e, q, exchange_at)
+      (effect_stored (set es d.connected m) d.disconnected Pass
+      ∙ ap (λ s. set s d.disconnected Pass) (rw p (effect_stored es d.connected Never)))
 
 -- ---- all of them
 
@@ -134,19 +91,33 @@ each_when {A} {S} f test (x ∷ xs) s =
     one true = refl
     one false = refl
 
--- what the three loops leave, with the code's copy of the base
-pub filled-all : (v : Vir) (inv : Bool) (l : ℕ) (z : Built) (b t d es e₀ e₁ e₂ : List ℕ) → take z.vars es ≡ e₂ → e₀ ≡ take z.vars b
-    → effects_of e₁ ≡ each (join_touch inv l) (collect (touch_row t) 0 z.touches) (effects_of e₀)
-    → effects_of e₂ ≡ each (exchange_at v l) (collect (disconnect_row d) 0 z.disconnects) (effects_of e₁)
-    → Filled v inv l z b t d es
-filled-all v inv l z b t d es e₀ e₁ e₂ whole copied touched cut = record { filled = of }
+-- the rows of the first part of a table
+collect_same : {A : Type 0} (f g : ℕ → A) (i n : ℕ) → ((k : ℕ) → k < i + n → f k ≡ g k) → collect f i n ≡ collect g i n
+unfolding collect
+collect_same f g i zero h = refl
+collect_same f g i (suc n) h = ap₂ ◌∷◌ (h i (omega arith)) (collect_same f g (suc i) n (λ k b. h k (omega (arith, b))))
+
+rows_taken : {A B : Type 0} (of : B → A) (d : B) (t : List B) (n : ℕ) → n ≤ length t
+    → collect (λ k. of (get_or (take n t) k d)) 0 (length (take n t)) ≡ collect (λ k. of (get_or t k d)) 0 n
+rows_taken of d t n h =
+    ap (collect (λ k. of (get_or (take n t) k d)) 0) (length-take-le n t h)
+    ∙ collect_same _ _ 0 n (λ k b. ap of (get_or-take n t k d (omega (arith, b))))
+
+-- what the three loops leave, in the first part of a longer table
+pub filled_all : (v : Vir) (inv : Bool) (l : ℕ) (z : Built) (b : List ℕ) (t d : List (List ℕ)) (stages : ℕ) (e₀ e₁ e₂ rest : List ℕ) → Fillable stages z t d
+    → length e₂ ≡ z.vars → e₀ ≡ take z.vars b
+    → effects_of e₁ ≡ each (join_touch inv l) (collect (touch_row (take z.touches t)) 0 (length (take z.touches t))) (effects_of e₀)
+    → effects_of e₂ ≡ each (exchange_at v l) (collect (disconnect_row (take z.disconnects d)) 0 (length (take z.disconnects d))) (effects_of e₁)
+    → Filled v inv l z b t d (e₂ ++ rest)
+filled_all v inv l z b t d stages e₀ e₁ e₂ rest fits sized copied touched cut = record { filled = of }
   where
-    of : (n : Network) → Apart n → Seeded n b t d z → effects_of (take z.vars es) ≡ fill_segments v n inv l
+    of : (n : Network) → Apart n → Seeded n b t d z → effects_of (take z.vars (e₂ ++ rest)) ≡ fill_segments v n inv l
     of n a s =
-        ap effects_of whole
+        ap effects_of (take_at e₂ rest z.vars sized)
         ∙ cut
-        ∙ ap₂ (each (exchange_at v l)) s.disconnects
-        (touched ∙ ap₂ (each (join_touch inv l)) s.touches (ap effects_of copied ∙ s.base)
+        ∙ ap₂ (each (exchange_at v l)) (rows_taken (λ r. disconnect_row (r ∷ []) 0) [] d z.disconnects fits.disconnects ∙ s.disconnects)
+        (touched
+        ∙ ap₂ (each (join_touch inv l)) (rows_taken (λ r. touch_row (r ∷ []) 0) [] t z.touches fits.touches ∙ s.touches) (ap effects_of copied ∙ s.base)
         ∙ sym (each_when (join_into inv) (λ m. eqb m.local l) (flat_touches n.segments) _))
         ∙ sym (each_when exchange (λ d. contains (stage_of v d.stage).declarations l) n.disconnects _)
         ∙ sym (fill_is v n inv l a)

@@ -1,3 +1,2 @@
-pub mod Copying
 pub mod Fillable
 pub mod Filling

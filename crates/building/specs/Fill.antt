@@ -1,5 +1,5 @@
 -- What fill_segments does with each row of the tables, what it asks of them, and what it promises.
-use Rattle.std.specs.Prelude.{◌≡◌, Bool, true, false, List, ℕ, ◌*◌, ◌<◌, ◌≤◌, eqb, length, set, take}
+use Rattle.std.specs.Prelude.{◌≡◌, Bool, true, false, List, ℕ, ◌<◌, ◌≤◌, eqb, length, set, take}
 use Rattle.effect.specs.declared.Effect.{Effect}
 use Rattle.effect.specs.declared.Effect.TheVariants.{Pass, Never}
 use Rattle.image.specs.Vir.{Vir, stage_of}
@@ -32,12 +32,12 @@ pub record Within (stages vars : ℕ) (d : Disconnect) : Type 0 where
   pub disconnected : d.disconnected < vars
 
 -- rows that stand in their tables, and name variables and stages that there are
-pub record Fillable (stages : ℕ) (z : Built) (t d : List ℕ) : Type 0 where
-  pub touches : 3 * z.touches ≤ length t
-  pub disconnects : 3 * z.disconnects ≤ length d
+pub record Fillable (stages : ℕ) (z : Built) (t d : List (List ℕ)) : Type 0 where
+  pub touches : z.touches ≤ length t
+  pub disconnects : z.disconnects ≤ length d
   pub touched : (k : ℕ) → k < z.touches → row_at t k 0 < z.vars
   pub cut : (k : ℕ) → k < z.disconnects → Within stages z.vars (disconnect_row d k)
 
 -- the seeds of a local, of whatever network the tables hold
-pub record Filled (v : Vir) (inv : Bool) (l : ℕ) (z : Built) (b t d es : List ℕ) : Type 0 where
+pub record Filled (v : Vir) (inv : Bool) (l : ℕ) (z : Built) (b : List ℕ) (t d : List (List ℕ)) (es : List ℕ) : Type 0 where
   pub filled : (n : Network) → Apart n → Seeded n b t d z → effects_of (take z.vars es) ≡ fill_segments v n inv l

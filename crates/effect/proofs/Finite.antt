@@ -1,13 +1,18 @@
 -- What a computed test over all effects shows of each.
-use mathlib.Core.Path.{◌≡◌, ◌∙◌, refl, sym, ap, subst}
+use mathlib.Core.Path.{◌≡◌, ◌∙◌, refl, sym, ap, ap₂, subst}
 use mathlib.Core.Bool.{Bool, true, false, ◌&&◌}
 use mathlib.Core.List.{List, [], ◌∷◌}
 use Prim.Native.Nat.{ℕ, zero, suc, ◌<◌}
 use native.Mathlib.Nat.{le_of_suc-le-suc, not-suc-le-zero}
-use lib.Dec.{T, eqb, eqb→eq, eqb_refl, ltb, ltb→lt}
+use native.Mathlib.Omega.{arith}
+use denote.Enum.Bare.{sameb}
+use denote.Enum.Declared.{tag_of}
+use lib.Dec.{T, eqb, eqb→eq, eqb_refl}
 use lib.ListN.{length, get_or}
+use Rattle.std.proofs.Common.{rules}
 use Rattle.effect.specs.declared.Effect.{Effect}
-use Rattle.effect.specs.declared.Effect.TheVariants.{Pass as P, Barrier as B, PassBarrier as PB, ReadPass as RP, ReadBarrier as RB, ReadPassBarrier as RPB, BarrierWrite as BW, PassBarrierWrite as PBW, ReadBarrierWrite as RBW, ReadPassBarrierWrite as RPBW, Never as X}
+use Rattle.effect.specs.contracts.Effect.{the_type}
+use Rattle.effect.specs.declared.Effect.TheVariants.{Pass as P, Never as X}
 use Rattle.effect.specs.Effect.{number_of, effect_of, effects, entry}
 
 -- a test that holds where the first fails, or where both hold
@@ -36,41 +41,16 @@ all-at f [] d t k h = absurd (not-suc-le-zero h)
 all-at f (x ∷ xs) d t zero h = both_left (f x) (all f xs) t
 all-at f (x ∷ xs) d t (suc k) h = all-at f xs d (both_right (f x) (all f xs) t) k (le_of_suc-le-suc h)
 
-number_small : (e : Effect) → T (ltb (number_of e) 11)
-number_small P = tt
-number_small B = tt
-number_small PB = tt
-number_small RP = tt
-number_small RB = tt
-number_small RPB = tt
-number_small BW = tt
-number_small PBW = tt
-number_small RBW = tt
-number_small RPBW = tt
-number_small X = tt
-
 pub number_below : (e : Effect) → number_of e < 11
-number_below e = ltb→lt (number_of e) 11 (number_small e)
+number_below e = grind arith
+
+-- an effect's place among the variants is its number
+pub tag_number : (e : Effect) → tag_of the_type e ≡ number_of e
+tag_number e = search rules
 
 pub effect_number : (e : Effect) → effect_of (number_of e) ≡ e
 unfolding effect_of
-effect_number P = refl
-effect_number B = refl
-effect_number PB = refl
-effect_number RP = refl
-effect_number RB = refl
-effect_number RPB = refl
-effect_number BW = refl
-effect_number PBW = refl
-effect_number RBW = refl
-effect_number RPBW = refl
-effect_number X = refl
-
--- what stands at a place that the list has does not go by the default
-pub get_or_any : {A : Type 0} (l : List A) (i : ℕ) (d e : A) → i < length l → get_or l i d ≡ get_or l i e
-get_or_any [] i d e h = absurd (not-suc-le-zero h)
-get_or_any (x ∷ l) zero d e h = refl
-get_or_any (x ∷ l) (suc i) d e h = get_or_any l i d e (le_of_suc-le-suc h)
+effect_number e = search rules
 
 -- the test f at every effect
 abbrev pub every : (Effect → Bool) → Bool
@@ -90,6 +70,10 @@ at₃ f t a b c = at (f a b) (at₂ (λ a b. every (f a b)) t a b) c
 -- that two effects are one, as a test
 abbrev pub same : Effect → Effect → Bool
 same a b = eqb (number_of a) (number_of b)
+
+-- .. and what `==` answers
+pub equal-same : (a b : Effect) → sameb the_type a b ≡ same a b
+equal-same a b = ap₂ eqb (tag_number a) (tag_number b)
 
 pub number_injective : (a b : Effect) → number_of a ≡ number_of b → a ≡ b
 number_injective a b h = sym (effect_number a) ∙ ap effect_of h ∙ effect_number b

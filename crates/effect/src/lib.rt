@@ -4,9 +4,7 @@
 ghost use Rattle.std.specs.Prelude.{◌≡◌};
 ghost use Rattle.effect.specs.Effect.{number_of, effect_of, join, union, read, pass, barrier, write};
 
-pub mod numbers;
-
-#[derive(Clone, Copy)]
+#[derive(Clone, Copy, Debug, PartialEq, Eq)]
 pub enum Effect {
     Pass,
     Barrier,
@@ -55,91 +53,67 @@ const UNION: [[Effect; 11]; 11] = [
     [P, B, PB, RP, RB, RPB, BW, PBW, RBW, RPBW, X],
 ];
 
+// Every effect, in the order of the numbers.
 const ALL: [Effect; 11] = [P, B, PB, RP, RB, RPB, BW, PBW, RBW, RPBW, X];
 
+// The number of an effect in document 01.
+impl From<Effect> for u8 {
+    ghost from_gives = { λ e n. n ≡ number_of e };
+
+    fn from(effect: Effect) -> u8 {
+        effect as u8
+    }
+}
+
+// The effect of a number; Never past the last.
+impl From<u8> for Effect {
+    ghost from_gives = { λ n e. e ≡ effect_of n };
+
+    fn from(n: u8) -> Effect {
+        ALL.get(n as usize).copied().unwrap_or(Effect::Never)
+    }
+}
+
 impl Effect {
-    // The number of an effect in document 01, and its place in the tables.
-    pub fn number(self) -> u8
-        ensures { result ≡ number_of self }
-    {
-        match self {
-            P => 0,
-            B => 1,
-            PB => 2,
-            RP => 3,
-            RB => 4,
-            RPB => 5,
-            BW => 6,
-            PBW => 7,
-            RBW => 8,
-            RPBW => 9,
-            X => 10,
-        }
-    }
-
-    // The effect of a number; Never past the last.
-    pub fn from_number(n: u8) -> Effect
-        ensures { result ≡ effect_of n }
-    {
-        if n < 11 {
-            let i = n as usize;
-            ALL[i]
-        } else {
-            Effect::Never
-        }
-    }
-
     // One effect, then the other.
     pub fn join(self, other: Effect) -> Effect
         ensures { result ≡ join self other }
     {
-        let i = self.number() as usize;
-        let j = other.number() as usize;
-        JOIN[i][j]
+        JOIN[self as usize][other as usize]
     }
 
     // Either effect.
     pub fn union(self, other: Effect) -> Effect
         ensures { result ≡ union self other }
     {
-        let i = self.number() as usize;
-        let j = other.number() as usize;
-        UNION[i][j]
+        UNION[self as usize][other as usize]
     }
 
+    #[tactic(auto, unfolding(crate::specs::Effect::read))]
     pub fn read(self) -> bool
         ensures { result ≡ read self }
     {
-        match self {
-            RP | RB | RPB | RBW | RPBW => true,
-            _ => false,
-        }
+        matches!(self, RP | RB | RPB | RBW | RPBW)
     }
 
+    #[tactic(auto, unfolding(crate::specs::Effect::pass))]
     pub fn pass(self) -> bool
         ensures { result ≡ pass self }
     {
-        match self {
-            P | PB | RP | RPB | PBW | RPBW => true,
-            _ => false,
-        }
+        matches!(self, P | PB | RP | RPB | PBW | RPBW)
     }
 
+    #[tactic(auto, unfolding(crate::specs::Effect::barrier))]
     pub fn barrier(self) -> bool
         ensures { result ≡ barrier self }
     {
-        match self {
-            B | PB | RB | RPB | BW | PBW | RBW | RPBW => true,
-            _ => false,
-        }
+        matches!(self, B | PB | RB | RPB | BW | PBW | RBW | RPBW)
     }
 
+    #[tactic(auto, unfolding(crate::specs::Effect::write))]
     pub fn write(self) -> bool
         ensures { result ≡ write self }
     {
-        match self {
-            BW | PBW | RBW | RPBW => true,
-            _ => false,
-        }
+        matches!(self, BW | PBW | RBW | RPBW)
     }
 }

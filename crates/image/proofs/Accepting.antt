@@ -1,4 +1,5 @@
 -- Where no record is at fault, the records have their facts: a clean walk passes each record, and what passes is good.
+use Rattle.std.specs.Prelude.{Err, None, Ok, Option, Result, Some}
 use mathlib.Core.Path.{◌≡◌, ◌∙◌, refl, sym, ap, subst}
 use mathlib.Core.Bool.{Bool, true, false, cond, not, ◌&&◌, ◌||◌, true≢false}
 use mathlib.Core.List.{List, [], ◌∷◌}
@@ -8,9 +9,6 @@ use native.Mathlib.Omega.{arith}
 use lib.Dec.{eqb, ltb, leb}
 use lib.ListN.{length, get_or, get_or-eq_default}
 use borrow.Author.Tests.{ltb-true, leb-true, leb-false, eqb-true, eqb-false, ne_eqb}
-use Rattle.vir.specs.declared.header.FoundHeader.TheVariants.{Nothing as NoHeader}
-use Rattle.vir.specs.declared.interface.FoundKind.TheVariants.{Nothing as NoKind}
-use Rattle.vir.specs.declared.step.FoundStep.TheVariants.{Nothing as NoStep}
 use Rattle.vir.specs.Header.{headers, header_of}
 use Rattle.vir.specs.Ids.{none, idx}
 use Rattle.vir.specs.Interface.{kinds, kind_of}
@@ -27,10 +25,6 @@ use Rattle.records.specs.declared.record.TypeRecord.{TypeRecord}
 use Rattle.records.specs.declared.record.StepRecord.{StepRecord}
 use Rattle.records.specs.declared.record.PortRecord.{PortRecord}
 use Rattle.records.specs.declared.running.Running.{Running}
-use Rattle.records.specs.declared.running.Judged.{Judged}
-use Rattle.records.specs.declared.running.Judged.TheVariants.{Fault, Next}
-use Rattle.records.specs.declared.running.Walked.{Walked}
-use Rattle.records.specs.declared.running.Walked.TheVariants.{At, Clean}
 use Rattle.image.specs.Accepted.{entry_at, Named, NamedOrNone, LayerFacts, InterfaceFacts, StageFacts, LocalFacts, TypeFacts, StepFacts, PortFacts, Accepted}
 use Rattle.records.specs.Bytes.{u16_at}
 use Rattle.rules.specs.Faults.{or_none, type_named, flags_good, laid, list_at, refs_below, layer_fields, layer_good, kind_lists, closure_at, entries_named, interface_fields, interface_good, header_has, transfer_good, stage_named, stage_lists, stage_fields, stage_good, local_good, type_good, step_has, step_named, step_good, port_good}
@@ -39,6 +33,7 @@ use Rattle.records.specs.Layout.{sections, size_of, count_of, start_of, Sized}
 use Rattle.records.proofs.Every.{every-at}
 use Rattle.rules.proofs.Fits.{laid-fits, layer_fits_lem, interface-fits, closure_three, stage-fits, stage_steps_fit, stage_ports_fit, entries_inspect, entries_closure, entries-stages, named-invoke, named-transfer, named_diverge}
 use Rattle.records.proofs.Guards.{left_true, right_true}
+use Rattle.records.specs.declared.running.Fault.{Fault}
 
 -- what the tests show of an index ..
 named_or_none : (n i : ℕ) → or_none n i ≡ true → NamedOrNone i n
@@ -79,15 +74,15 @@ known test table other n refused h = go (leb (length table) n) refl
 
 pub kind_known : (n m : ℕ) → kind_lists (kind_of n) m ≡ true → n < 5
 unfolding kind_of
-kind_known n m = known (λ f. kind_lists f m) kinds NoKind n refl
+kind_known n m = known (λ f. kind_lists f m) kinds None n refl
 
 header_known : (n m : ℕ) → header_has (header_of n) m ≡ true → n < 8
 unfolding header_of
-header_known n m = known (λ f. header_has f m) headers NoHeader n refl
+header_known n m = known (λ f. header_has f m) headers None n refl
 
 step_known : (n a b m : ℕ) → step_has (step_of n a b) m ≡ true → n < 21
 unfolding step_of
-step_known n a b m = known (λ f. step_has f m) (steps a b) NoStep n refl
+step_known n a b m = known (λ f. step_has f m) (steps a b) None n refl
 
 -- a good record has its facts: a layer, and so on in the order of the file
 layer-facts : (s : List ℕ) (c : Counts) (r : Running) (l : LayerRecord) → layer_good s c r l ≡ true → LayerFacts s c l
@@ -206,48 +201,48 @@ port_facts c p h =
     }
 
 -- a record that was judged, from some running places, and passed
-record Passed (f : ℕ → Running → Judged) (p : ℕ) : Type 0 where
+record Passed (f : ℕ → Running → Option Running) (p : ℕ) : Type 0 where
   from : Running
   next : Running
-  passes : f p from ≡ Next next
+  passes : f p from ≡ Some next
 
 -- only a good record passes
-passed_good : (good : Bool) (next q : Running) → cond good (Next next) Fault ≡ Next q → good ≡ true
+passed_good : (good : Bool) (next q : Running) → cond good (Some next) None ≡ Some q → good ≡ true
 passed_good true next q h = refl
 passed_good false next q h = let z : ◌≡◌ {A = ℕ} 0 1 = cc in absurd (omega arith)
 
 -- a walk that ends clean passes every record
-walk_passed : (f : ℕ → Running → Judged) (size n p : ℕ) (r q : Running) → walk f size n p r ≡ Clean q → (k : ℕ) → k < n → Passed f (p + size * k)
+walk_passed : (f : ℕ → Running → Option Running) (size n p : ℕ) (r q : Running) → walk f size n p r ≡ Ok q → (k : ℕ) → k < n → Passed f (p + size * k)
 unfolding walk
 walk_passed f size zero p r q h k l = absurd (not-suc-le-zero l)
 walk_passed f size (suc n) p r q h k l = go (f p r) refl h (λ y. walk_passed f size n (p + size) y q) k l
   where
-    go : (j : Judged) → f p r ≡ j → after p j (λ y. walk f size n (p + size) y) ≡ Clean q
-        → ((y : Running) → walk f size n (p + size) y ≡ Clean q → (k : ℕ) → k < n → Passed f (p + size + size * k))
+    go : (j : Option Running) → f p r ≡ j → after p j (λ y. walk f size n (p + size) y) ≡ Ok q
+        → ((y : Running) → walk f size n (p + size) y ≡ Ok q → (k : ℕ) → k < n → Passed f (p + size + size * k))
         → (k : ℕ) → k < suc n → Passed f (p + size * k)
-    go Fault e w rest k l = let z : ◌≡◌ {A = ℕ} 0 1 = cc in absurd (omega arith)
-    go (Next y) e w rest zero l = subst (Passed f) (omega arith) (record { from = r; next = y; passes = e })
-    go (Next y) e w rest (suc k) l = subst (Passed f) (omega arith) (rest y w k (omega arith))
+    go None e w rest k l = let z : ◌≡◌ {A = ℕ} 0 1 = cc in absurd (omega arith)
+    go (Some y) e w rest zero l = subst (Passed f) (omega arith) (record { from = r; next = y; passes = e })
+    go (Some y) e w rest (suc k) l = subst (Passed f) (omega arith) (rest y w k (omega arith))
 
 -- every record of a section passes
 abbrev Through : List ℕ → Counts → Section → Type 0
 Through s c x = (k : ℕ) → k < count_of c x → Passed (judge x s c) (start_of c x + size_of x * k)
 
 -- .. so does every record of every section
-all_passed : (s : List ℕ) (c : Counts) (xs : List Section) (r q : Running) → walk_all s c xs r ≡ Clean q
+all_passed : (s : List ℕ) (c : Counts) (xs : List Section) (r q : Running) → walk_all s c xs r ≡ Ok q
     → (i : ℕ) → i < length xs → Through s c (get_or xs i Ports)
 unfolding walk_all
 all_passed s c [] r q h i l = absurd (not-suc-le-zero l)
 all_passed s c (x ∷ xs) r q h i l = go (walk_section s c x r) refl h (λ y. all_passed s c xs y q) i l
   where
-    go : (w : Walked) → walk_section s c x r ≡ w → onwards w (λ y. walk_all s c xs y) ≡ Clean q
-        → ((y : Running) → walk_all s c xs y ≡ Clean q → (i : ℕ) → i < length xs → Through s c (get_or xs i Ports))
+    go : (w : Result Running Fault) → walk_section s c x r ≡ w → onwards w (λ y. walk_all s c xs y) ≡ Ok q
+        → ((y : Running) → walk_all s c xs y ≡ Ok q → (i : ℕ) → i < length xs → Through s c (get_or xs i Ports))
         → (i : ℕ) → i < length (x ∷ xs) → Through s c (get_or (x ∷ xs) i Ports)
-    go (At p) e w rest i l = let z : ◌≡◌ {A = ℕ} 0 1 = cc in absurd (omega arith)
-    go (Clean y) e w rest zero l = walk_passed (judge x s c) (size_of x) (count_of c x) (start_of c x) r y e
-    go (Clean y) e w rest (suc i) l = rest y w i (omega arith)
+    go (Err p) e w rest i l = let z : ◌≡◌ {A = ℕ} 0 1 = cc in absurd (omega arith)
+    go (Ok y) e w rest zero l = walk_passed (judge x s c) (size_of x) (count_of c x) (start_of c x) r y e
+    go (Ok y) e w rest (suc i) l = rest y w i (omega arith)
 
-pub accepted : (s : List ℕ) (c : Counts) (r : Running) → Sized s c → walk_all s c sections (record { refs = 0; steps = 0; ports = 0 }) ≡ Clean r
+pub accepted : (s : List ℕ) (c : Counts) (r : Running) → Sized s c → walk_all s c sections (record { refs = 0; steps = 0; ports = 0 }) ≡ Ok r
     → Accepted s c
 accepted s c r z h =
     let through : (i : ℕ) → i < 7 → Through s c (get_or sections i Ports) = all_passed s c sections _ r h in

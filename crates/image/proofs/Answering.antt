@@ -1,4 +1,5 @@
 -- The answers in their order: which of them is given, by what the code has found out.
+use Rattle.std.specs.Prelude.{Ok}
 use mathlib.Core.Path.{◌≡◌, ◌∙◌, refl, sym, ap}
 use mathlib.Core.Bool.{Bool, true, false, not, ◌&&◌}
 use mathlib.Core.List.{List}
@@ -10,8 +11,8 @@ use borrow.Author.Tests.{lt-ltb, le-ltb, eq-eqb, ne_eqb, leb-true, eqb-false, no
 use Rattle.image.specs.declared.answer.Answer.{Answer}
 use Rattle.records.specs.declared.layout.Counts.{Counts}
 use Rattle.records.specs.declared.running.Running.{Running}
-use Rattle.records.specs.declared.running.Walked.TheVariants.{Clean}
-use Rattle.image.specs.Check.{refused, marked, owned, kind_answer, record_answer, check_of}
+use Rattle.image.specs.Check.{marked, owned, kind_answer, record_answer, check_of}
+use Rattle.image.specs.Answer.{refused}
 use Rattle.judging.specs.Judge.{walk_all}
 use Rattle.image.specs.Kind.{kind_of_vir}
 use Rattle.image.specs.LayerRules.{layer_rules}
@@ -51,10 +52,10 @@ abbrev pub by_owner : Bool → ℕ → Answer → Answer
 by_owner all-owned place then = elim all-owned [ true ↦ then | false ↦ refused 6 place ]
 
 module _ (s : List ℕ) (c : Counts) (r : Running) where
-  pub records_owned : owned c r ≡ true → kind_answer (view_of s c) ≡ record_answer s c (Clean r)
+  pub records_owned : owned c r ≡ true → kind_answer (view_of s c) ≡ record_answer s c (Ok r)
   records_owned h = sym (ap (λ (b : Bool). by_owner b (length s) (kind_answer (view_of s c))) h)
 
-  pub records_unowned : owned c r ≡ false → refused 6 (length s) ≡ record_answer s c (Clean r)
+  pub records_unowned : owned c r ≡ false → refused 6 (length s) ≡ record_answer s c (Ok r)
   records_unowned h = sym (ap (λ (b : Bool). by_owner b (length s) (kind_answer (view_of s c))) h)
 
 -- the answer by the header's tests

@@ -1,23 +1,21 @@
 -- The climb by parents: any fuel above a layer's number gives the same, and a step up leaves the answer.
 use mathlib.Core.Path.{◌≡◌, ◌∙◌, refl, sym, ap, ap₂}
-use mathlib.Core.Bool.{Bool, true, false, ◌||◌}
+use mathlib.Core.Bool.{Bool, true, false, not, ◌||◌}
 use mathlib.Core.List.{List}
-use Prim.Native.Nat.{ℕ, zero, suc, ◌+◌, ◌*◌, ◌<◌}
+use Prim.Native.Nat.{ℕ, zero, suc, ◌<◌}
 use native.Mathlib.Nat.{not-suc-le-zero}
 use native.Mathlib.Omega.{arith}
 use lib.Dec.{eqb, ltb}
 use lib.ListN.{length}
-use borrow.Author.Tests.{eq-eqb, ne_eqb, eqb-false, ltb-true}
+use borrow.Author.Tests.{eq-eqb, ne_eqb, eqb-true, eqb-false, ltb-true, not-true, not-false}
 use Rattle.vir.specs.Ids.{none}
 use Rattle.records.specs.declared.layout.Counts.{Counts}
-use Rattle.records.specs.Bytes.{u16_at}
 use Rattle.image.specs.Entering.{lies_in}
 use Rattle.image.specs.LayerRules.{parents_below, lies_within}
-use Rattle.records.specs.Layout.{layers_at}
 use Rattle.image.specs.View.{view_of}
 use Rattle.image.specs.Vir.{Vir, layer_of}
 use Rattle.records.proofs.Every.{every-at}
-use Rattle.image.proofs.Fields.{parent-at}
+use Rattle.image.proofs.Fields.{parent_read}
 use Rattle.image.proofs.Viewing.{length-layers}
 
 abbrev pub parent_of : Vir → ℕ → ℕ
@@ -86,19 +84,22 @@ module _ {s : List ℕ} {c : Counts} {outer l at : ℕ} (w : Climbed s c outer l
   inside-view : at < length view.layers
   inside-view = omega (arith, w.inside, length-layers s c)
 
-  pub climbed_found : at ≡ outer → true ≡ lies_within view (length view.layers) l outer
-  climbed_found e = sym (within_found view outer (length view.layers) at inside-view e) ∙ w.ahead
+  pub climbed_found : not (eqb at outer) ≡ false → true ≡ lies_within view (length view.layers) l outer
+  climbed_found e = sym (within_found view outer (length view.layers) at inside-view (eqb-true at outer (not-false _ e))) ∙ w.ahead
 
-  module _ {parent : ℕ} (read : parent ≡ u16_at s (layers_at c + 6 * at)) (apart : at ≡ outer → ⊥) where
-    found : parent_of view at ≡ parent
-    found = parent-at s c at w.inside ∙ sym read
+  module _ {parent : ℕ} (found : parent_of view at ≡ parent) (on : not (eqb at outer) ≡ true) where
+    apart : at ≡ outer → ⊥
+    apart = eqb-false at outer (not-true _ on)
 
-    pub climbed_root : parent ≡ none → false ≡ lies_within view (length view.layers) l outer
-    climbed_root e = sym (within_root view outer (length view.layers) at apart (found ∙ e)) ∙ w.ahead
+    pub climbed_root : eqb parent none ≡ true → false ≡ lies_within view (length view.layers) l outer
+    climbed_root e = sym (within_root view outer (length view.layers) at apart (found ∙ eqb-true parent none e)) ∙ w.ahead
 
-    module _ (below : parents_below view ≡ true) (some : parent ≡ none → ⊥) where
+    module _ (below : parents_below view ≡ true) (some : eqb parent none ≡ false) where
+      up : parent_of view at ≡ none → ⊥
+      up e = eqb-false parent none some (sym found ∙ e)
+
       pub climbed_less : parent < at
-      climbed_less = omega (arith, found, parent-below view below at inside-view (λ e. some (sym found ∙ e)))
+      climbed_less = omega (arith, found, parent-below view below at inside-view up)
 
       pub climbed_on : Climbed s c outer l parent
       climbed_on =
@@ -106,6 +107,9 @@ module _ {s : List ℕ} {c : Counts} {outer l at : ℕ} (w : Climbed s c outer l
             inside = omega (arith, climbed_less, w.inside);
             ahead =
                 ap (λ (k : ℕ). lies_within view (length view.layers) k outer) (sym found)
-                ∙ sym (within_on view below outer (length view.layers) at inside-view inside-view apart (λ e. some (sym found ∙ e)))
+                ∙ sym (within_on view below outer (length view.layers) at inside-view inside-view apart up)
                 ∙ w.ahead;
           }
+
+-- what a climb over records needs
+pub ruleset climbing = (parent_read, climbed_found, climbed_root, climbed_less, climbed_on)

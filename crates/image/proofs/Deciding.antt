@@ -1,5 +1,5 @@
 -- The kind, from what the code finds out in turn.
-use mathlib.Core.Path.{◌≡◌, ◌∙◌, sym, ap}
+use mathlib.Core.Path.{◌≡◌, ◌∙◌, refl, sym, ap}
 use mathlib.Core.Bool.{Bool, true, false, cond, ◌&&◌}
 use mathlib.Core.List.{List}
 use Prim.Native.Nat.{ℕ}
@@ -7,9 +7,14 @@ use native.Mathlib.Omega.{arith}
 use lib.Dec.{eqb, ltb}
 use lib.ListN.{length}
 use borrow.Author.Tests.{lt-ltb, le-ltb, eq-eqb}
+use Rattle.std.specs.Prelude.{Option}
+use Rattle.std.specs.Bool.{then_some}
 use Rattle.vir.specs.Ids.{none}
 use Rattle.records.specs.declared.layout.Counts.{Counts}
 use Rattle.records.specs.Every.{every}
+use Rattle.image.specs.declared.answer.Kind.{Kind}
+use Rattle.image.specs.declared.answer.Kind.TheVariants.{Flat}
+use Rattle.image.specs.Answer.{kind_number}
 use Rattle.image.specs.Kind.{concat, occurrences, stages_of, listed, listed_by_own, flat, layered, kind_of_vir}
 use Rattle.records.specs.Layout.{Sized}
 use Rattle.image.specs.Tally.{tally, counted_at}
@@ -21,6 +26,10 @@ use Rattle.image.proofs.Viewing.{length-layers, length-stages}
 -- the kind by its four tests
 abbrev kind_by : Bool → Bool → Bool → Bool → ℕ
 kind_by own list lay flat = cond (own && list) (cond lay 2 (cond flat 1 0)) 0
+
+flat_number : (b : Bool) → kind_number (then_some b Flat) ≡ cond b 1 0
+flat_number true = refl
+flat_number false = refl
 
 module _ (s : List ℕ) (c : Counts) where
   abbrev v : Vir
@@ -50,10 +59,11 @@ module _ (s : List ℕ) (c : Counts) where
           let lay : layered v ≡ true = lt-ltb 0 (length v.layers) (omega (arith, length-layers s c)) in
           sym (λ i. kind_by (own i) (list i) (lay i) (flat v))
 
-      pub kind-flat : {b : Bool} → c.layers ≡ 0 → b ≡ every (length v.stages) (λ t. eqb (stage_of v t).transfer none) → cond b 1 0 ≡ kind_of_vir v
+      pub kind-flat : {b : Bool} {k : Option Kind} → c.layers ≡ 0 → b ≡ every (length v.stages) (λ t. eqb (stage_of v t).transfer none)
+          → k ≡ then_some b Flat → kind_number k ≡ kind_of_vir v
       unfolding kind_of_vir
-      kind-flat {b} h e =
+      kind-flat {b} h e t =
           let lay : layered v ≡ false = le-ltb 0 (length v.layers) (omega (arith, length-layers s c)) in
           let bare : eqb (length v.layers) 0 ≡ true = eq-eqb (length v.layers) 0 (length-layers s c ∙ h) in
           let whole : flat v ≡ b = ap (λ (x : Bool). x && every (length v.stages) (λ t. eqb (stage_of v t).transfer none)) bare ∙ sym e in
-          sym (λ i. kind_by (own i) (list i) (lay i) (whole i))
+          ap kind_number t ∙ flat_number b ∙ sym (λ i. kind_by (own i) (list i) (lay i) (whole i))

@@ -1,28 +1,22 @@
 -- The layers that steps name, in the view and in the bytes; and a stage that a layer lists has an existing layer.
-use mathlib.Core.Path.{◌≡◌, ◌∙◌, refl, sym, ap, ap₂}
-use mathlib.Core.Bool.{Bool, true, false, cond, ◌&&◌}
+use mathlib.Core.Path.{◌≡◌, ◌∙◌, refl, sym, ap}
+use mathlib.Core.Bool.{Bool, true, false, cond}
 use mathlib.Core.List.{List, [], ◌∷◌, ◌++◌}
-use Prim.Native.Nat.{ℕ, suc, ◌+◌, ◌*◌, ◌<◌, ◌≤◌}
+use Prim.Native.Nat.{ℕ, suc, ◌+◌, ◌<◌, ◌≤◌}
 use native.Mathlib.Omega.{arith}
 use lib.Dec.{eqb, ltb}
 use lib.ListN.{length, get_or}
 use borrow.Author.Tests.{eqb-true, ltb-true, ltb-false}
 use Rattle.vir.specs.Ids.{none}
 use Rattle.records.specs.declared.layout.Counts.{Counts}
-use Rattle.records.specs.declared.record.Run.{Run}
-use Rattle.records.specs.declared.record.StageRecord.{StageRecord}
-use Rattle.records.specs.declared.record.StepRecord.{StepRecord}
-use Rattle.image.specs.Entering.{action_at, actions_of, diverges_of, lies_in}
 use Rattle.image.specs.Kind.{all, concat, occurrences}
-use Rattle.image.specs.LayerRules.{listed_once, listed_by_own_layer, targets}
-use Rattle.records.specs.Layout.{stages_at, steps_at}
-use Rattle.records.specs.Records.{stage_at, step_at}
+use Rattle.image.specs.LayerRules.{listed_once, listed_by_own_layer}
 use Rattle.image.specs.View.{view_of}
-use Rattle.image.specs.Vir.{Layer, Stage, Vir, layer_of, stage_of}
+use Rattle.image.specs.Vir.{Layer, Vir, layer_of, stage_of}
 use Rattle.records.proofs.Every.{every-at}
 use Rattle.records.proofs.Guards.{left_true, right_true}
-use Rattle.image.proofs.Steps.{diverge_one, diverge_none}
-use Rattle.image.proofs.Viewing.{length-layers, length-stages, stage_at_lem}
+use Rattle.image.proofs.Fields.{stage_read}
+use Rattle.image.proofs.Viewing.{length-layers, length-stages}
 
 pub occurrences-append : (t : ℕ) (a b : List ℕ) → occurrences t (a ++ b) ≡ occurrences t a + occurrences t b
 unfolding occurrences
@@ -78,27 +72,5 @@ module _ (s : List ℕ) (c : Counts) where
       ∙ every-at (λ l. all (λ t. eqb (stage_of v t).layer l) (layer_of v l).stages) _ j own k) in
       omega (arith, length-layers s c)
 
-  module _ (k : ℕ) where
-    abbrev step : StepRecord
-    step = step_at s (steps_at c + 11 * k)
-
-    pub diverges_none : (step.tag ≡ 7 → ⊥) → diverges_of (action_at s c k) ≡ []
-    diverges_none h = diverge_none step.tag step.a step.b h
-
-    pub diverges_one : step.tag ≡ 7 → step.a < none → diverges_of (action_at s c k) ≡ step.a ∷ []
-    diverges_one e h = diverge_one step.tag step.a step.b e h
-
-  module _ (t : ℕ) (h : t < c.stages) where
-    abbrev stage : StageRecord
-    stage = stage_at s (stages_at c + 30 * t)
-
-    pub layer-read : (stage_of (view_of s c) t).layer ≡ stage.layer.0
-    layer-read = ap (λ (x : Stage). x.layer) (stage_at_lem s c t h)
-
-    -- what a stage's steps name, by the fields that the code reads
-    pub stage_diverged : (ok : Bool) {r : Bool} {l : ℕ} {run : Run} → l ≡ stage.layer.0 → run ≡ stage.steps
-        → r ≡ (ok && all (lies_in (view_of s c) l) (concat diverges_of (actions_of s c run)))
-        → r ≡ (ok && all (lies_in (view_of s c) (stage_of (view_of s c) t).layer) (targets (stage_of (view_of s c) t)))
-    stage_diverged ok p q w =
-        w ∙ ap₂ (λ (l : ℕ) (run : Run). ok && all (lies_in (view_of s c) l) (concat diverges_of (actions_of s c run))) p q
-        ∙ sym (ap (λ (x : Stage). ok && all (lies_in (view_of s c) x.layer) (targets x)) (stage_at_lem s c t h))
+-- a stage's record, and its layer
+pub ruleset standing = (stage_read, layer_below)

@@ -8,7 +8,8 @@ use lib.Dec.{eqb}
 use lib.ListN.{length, get_or, take}
 use lib.Seq.{get_or-take}
 use Rattle.records.specs.Bytes.{u8_at, u16_at}
-use Rattle.image.specs.Check.{refused, marked, check_of}
+use Rattle.image.specs.Check.{marked, check_of}
+use Rattle.image.specs.Answer.{refused}
 use Rattle.records.specs.Layout.{counts_of, within}
 use Rattle.image.proofs.Answering.{check_unmarked, check_count, check_length, within-most}
 

@@ -1,13 +1,13 @@
 -- Numbers that records name in a row: a test of each of them, and their count, taken from the front, one record at a time.
 use mathlib.Core.Path.{◌≡◌, ◌∙◌, refl, sym, ap, ap₂}
-use mathlib.Core.Bool.{Bool, true, false, ◌&&◌, and-true, and-false, and_assoc}
+use mathlib.Core.Bool.{Bool, true, ◌&&◌, and-true, and_assoc}
 use mathlib.Core.List.{List, [], ◌∷◌, ◌++◌}
-use Prim.Native.Nat.{ℕ, zero, suc, ◌+◌, ◌-◌}
+use Prim.Native.Nat.{ℕ, suc, ◌+◌, ◌-◌, ◌<◌, ◌≤◌}
 use native.Mathlib.Numerals.{add-one}
 use native.Mathlib.Omega.{arith}
-use lib.ListN.{get_or, set}
+use Rattle.records.specs.declared.record.Run.{Run}
 use Rattle.image.specs.Kind.{all, concat}
-use Rattle.image.specs.Tally.{bump, tally}
+use Rattle.image.specs.Tally.{tally}
 use Rattle.image.specs.View.{collect}
 use Rattle.image.proofs.Owning.{tally-append}
 
@@ -16,81 +16,68 @@ unfolding all
 all_append f [] b = refl
 all_append f (x ∷ a) b = ap (λ (r : Bool). f x && r) (all_append f a b) ∙ sym (and_assoc (f x) (all f a) (all f b))
 
--- a record that names nothing, and one that names a number
-module _ (f : ℕ → Bool) (ok : Bool) {xs : List ℕ} where
-  pub pass-none : xs ≡ [] → ok ≡ (ok && all f xs)
-  unfolding all
-  pass-none e = sym (and-true ok) ∙ sym (ap (λ (l : List ℕ). ok && all f l) e)
+-- the record at k and those behind it, up to e
+module _ {A : Type 0} (h : ℕ → A) (k e : ℕ) where
+  collect-on : k < e → collect h k (e - k) ≡ h k ∷ collect h (k + 1) (e - (k + 1))
+  unfolding collect
+  collect-on l =
+      let more : e - k ≡ suc (e - (k + 1)) = omega arith in
+      ap (collect h k) more ∙ ap (λ (n : ℕ). h k ∷ collect h n (e - (k + 1))) (sym (add-one k))
 
-  pub pass_one : {m : ℕ} {r : Bool} → xs ≡ m ∷ [] → r ≡ (ok && f m) → r ≡ (ok && all f xs)
-  unfolding all
-  pass_one {m} e p = p ∙ ap (λ (b : Bool). ok && b) (sym (and-true (f m))) ∙ sym (ap (λ (l : List ℕ). ok && all f l) e)
+  collect-end : e ≤ k → collect h k (e - k) ≡ []
+  unfolding collect
+  collect-end l = let done : e - k ≡ 0 = omega arith in ap (collect h k) done
 
-  -- .. that is known to pass, or to fail
-  pub pass_known : {m : ℕ} → xs ≡ m ∷ [] → f m ≡ true → ok ≡ (ok && all f xs)
-  pass_known e h = pass_one e (sym (and-true ok) ∙ ap (λ (b : Bool). ok && b) (sym h))
-
-  pub pass_fails : {m : ℕ} → xs ≡ m ∷ [] → f m ≡ false → false ≡ (ok && all f xs)
-  pass_fails e h = pass_one e (sym (and-false ok) ∙ ap (λ (b : Bool). ok && b) (sym h))
-
-module _ (counts : List ℕ) {xs : List ℕ} where
-  pub count_none : xs ≡ [] → counts ≡ tally xs counts
-  unfolding tally
-  count_none e = sym (ap (λ (l : List ℕ). tally l counts) e)
-
-  pub count_one : {m : ℕ} {after : List ℕ} → xs ≡ m ∷ [] → after ≡ set counts m (bump (get_or counts m 0)) → after ≡ tally xs counts
-  unfolding tally
-  count_one e p = p ∙ sym (ap (λ (l : List ℕ). tally l counts) e)
+collect-start : {A : Type 0} (h : ℕ → A) (run : Run) {k e : ℕ} → k ≡ run.first → e ≡ run.first + run.count
+    → collect h k (e - k) ≡ collect h run.first run.count
+collect-start h run {k} {e} p q = let whole : e - k ≡ run.count = omega arith in ap₂ (collect h) p whole
 
 -- the test of those ahead, and what those behind came to, give the answer
-pub record Passing {A : Type 0} (f : ℕ → Bool) (g : A → List ℕ) (h : ℕ → A) (answer : Bool) (k left : ℕ) (ok : Bool) : Type 0 where
-  pub ahead : (ok && all f (concat g (collect h k left))) ≡ answer
+pub record Passing {A : Type 0} (f : ℕ → Bool) (g : A → List ℕ) (h : ℕ → A) (answer : Bool) (k e : ℕ) (ok : Bool) : Type 0 where
+  pub ahead : (ok && all f (concat g (collect h k (e - k)))) ≡ answer
 
-pub passing_start : {A : Type 0} (f : ℕ → Bool) (g : A → List ℕ) (h : ℕ → A) (k left : ℕ) (ok : Bool)
-    → Passing f g h (ok && all f (concat g (collect h k left))) k left ok
-passing_start f g h k left ok = record { ahead = refl }
+pub passing_start : {A : Type 0} (f : ℕ → Bool) (g : A → List ℕ) (h : ℕ → A) (run : Run) {k e : ℕ} → k ≡ run.first → e ≡ run.first + run.count
+    → Passing f g h (all f (concat g (collect h run.first run.count))) k e true
+passing_start {A} f g h run p q = record { ahead = ap (λ (l : List A). all f (concat g l)) (collect-start h run p q) }
 
--- the record at k and those behind it
-collect-on : {A : Type 0} (h : ℕ → A) (k n : ℕ) → collect h (k + 1) (suc n - 1) ≡ collect h (suc k) n
-collect-on h k n = let pred : suc n - 1 ≡ n = omega arith in ap₂ (collect h) (add-one k) pred
-
-module _ {A : Type 0} {f : ℕ → Bool} {g : A → List ℕ} {h : ℕ → A} {answer : Bool} {k : ℕ} {ok : Bool} where
-  pub passing_on : {left : ℕ} {ok' : Bool} → Passing f g h answer k left ok → (left ≡ 0 → ⊥) → ok' ≡ (ok && all f (g (h k)))
-      → Passing f g h answer (k + 1) (left - 1) ok'
-  unfolding collect concat
-  passing_on {left = zero} w n e = absurd (n refl)
-  passing_on {left = suc left} w n e =
+module _ {A : Type 0} {f : ℕ → Bool} {g : A → List ℕ} {h : ℕ → A} {answer : Bool} {k e : ℕ} {ok : Bool} (w : Passing f g h answer k e ok) where
+  pub passing_on : {ok' : Bool} → k < e → ok' ≡ (ok && all f (g (h k))) → Passing f g h answer (k + 1) e ok'
+  unfolding concat
+  passing_on l p =
+      let rest : List ℕ = concat g (collect h (k + 1) (e - (k + 1))) in
       record {
         ahead =
-            ap₂ (λ (o : Bool) (l : List A). o && all f (concat g l)) e (collect-on h k left)
-            ∙ and_assoc ok (all f (g (h k))) (all f (concat g (collect h (suc k) left)))
-            ∙ sym (ap (λ (b : Bool). ok && b) (all_append f (g (h k)) (concat g (collect h (suc k) left)))) ∙ w.ahead;
+            ap (λ (o : Bool). o && all f rest) p
+            ∙ and_assoc ok (all f (g (h k))) (all f rest)
+            ∙ ap (λ (b : Bool). ok && b) (sym (all_append f (g (h k)) rest))
+            ∙ sym (ap (λ (l : List A). ok && all f (concat g l)) (collect-on h k e l))
+            ∙ w.ahead;
       }
 
-  pub passing_end : {left : ℕ} → Passing f g h answer k left ok → left ≡ 0 → ok ≡ answer
-  unfolding collect concat all
-  passing_end w e = sym (and-true ok) ∙ sym (ap (λ (n : ℕ). ok && all f (concat g (collect h k n))) e) ∙ w.ahead
+  pub passing_end : e ≤ k → ok ≡ answer
+  unfolding concat all
+  passing_end l = sym (and-true ok) ∙ sym (ap (λ (l : List A). ok && all f (concat g l)) (collect-end h k e l)) ∙ w.ahead
 
 -- the count of those ahead, from what those behind were counted at, is the target
-pub record Counting {A : Type 0} (g : A → List ℕ) (h : ℕ → A) (target : List ℕ) (k left : ℕ) (counts : List ℕ) : Type 0 where
-  pub ahead : tally (concat g (collect h k left)) counts ≡ target
+pub record Counting {A : Type 0} (g : A → List ℕ) (h : ℕ → A) (target : List ℕ) (k e : ℕ) (counts : List ℕ) : Type 0 where
+  pub ahead : tally (concat g (collect h k (e - k))) counts ≡ target
 
-pub counting_start : {A : Type 0} (g : A → List ℕ) (h : ℕ → A) (k left : ℕ) (counts : List ℕ)
-    → Counting g h (tally (concat g (collect h k left)) counts) k left counts
-counting_start g h k left counts = record { ahead = refl }
+pub counting_start : {A : Type 0} (g : A → List ℕ) (h : ℕ → A) (run : Run) (counts : List ℕ) {k e : ℕ} → k ≡ run.first
+    → e ≡ run.first + run.count → Counting g h (tally (concat g (collect h run.first run.count)) counts) k e counts
+counting_start {A} g h run counts p q = record { ahead = ap (λ (l : List A). tally (concat g l) counts) (collect-start h run p q) }
 
-module _ {A : Type 0} {g : A → List ℕ} {h : ℕ → A} {target : List ℕ} {k : ℕ} {counts : List ℕ} where
-  pub counting_on : {left : ℕ} {counts' : List ℕ} → Counting g h target k left counts → (left ≡ 0 → ⊥) → counts' ≡ tally (g (h k)) counts
-      → Counting g h target (k + 1) (left - 1) counts'
-  unfolding collect concat
-  counting_on {left = zero} w n e = absurd (n refl)
-  counting_on {left = suc left} w n e =
+module _ {A : Type 0} {g : A → List ℕ} {h : ℕ → A} {target : List ℕ} {k e : ℕ} {counts : List ℕ} (w : Counting g h target k e counts) where
+  pub counting_on : {counts' : List ℕ} → k < e → counts' ≡ tally (g (h k)) counts → Counting g h target (k + 1) e counts'
+  unfolding concat
+  counting_on l p =
+      let rest : List ℕ = concat g (collect h (k + 1) (e - (k + 1))) in
       record {
         ahead =
-            ap₂ (λ (cs : List ℕ) (l : List A). tally (concat g l) cs) e (collect-on h k left)
-            ∙ sym (tally-append (g (h k)) (concat g (collect h (suc k) left)) counts) ∙ w.ahead;
+            ap (tally rest) p ∙ sym (tally-append (g (h k)) rest counts)
+            ∙ sym (ap (λ (l : List A). tally (concat g l) counts) (collect-on h k e l))
+            ∙ w.ahead;
       }
 
-  pub counting_end : {left : ℕ} → Counting g h target k left counts → left ≡ 0 → counts ≡ target
-  unfolding collect concat tally
-  counting_end w e = sym (ap (λ (n : ℕ). tally (concat g (collect h k n)) counts) e) ∙ w.ahead
+  pub counting_end : e ≤ k → counts ≡ target
+  unfolding concat tally
+  counting_end l = sym (ap (λ (l : List A). tally (concat g l) counts) (collect-end h k e l)) ∙ w.ahead

@@ -1,4 +1,5 @@
 -- What is read from the bytes of clean records is written out as the same bytes.
+use Rattle.std.specs.Prelude.{Ok}
 use mathlib.Core.Path.{◌≡◌, ◌∙◌, refl, sym, ap, ap₂}
 use mathlib.Core.Bool.{Bool, true, ◌&&◌}
 use mathlib.Core.List.{List, [], ◌∷◌, ◌++◌}
@@ -10,7 +11,6 @@ use borrow.Author.Tests.{eqb-true}
 use Rattle.records.specs.declared.layout.Counts.{Counts}
 use Rattle.records.specs.declared.layout.Section.TheVariants.{Layers, Interfaces, Locals, Types, Steps, Ports}
 use Rattle.records.specs.declared.running.Running.{Running}
-use Rattle.records.specs.declared.running.Walked.TheVariants.{Clean}
 use Rattle.records.specs.Bytes.{Bytes, u8_at, u16_at}
 use Rattle.image.specs.Check.{marked, owned}
 use Rattle.image.specs.Encode.{u16_bytes, port_bytes, interfaces_bytes, stages_bytes, actions_bytes, all_actions, stage_ports, all_ports, layer_refs, interface_refs, all_refs, count_bytes, encode}
@@ -181,7 +181,7 @@ module _ (s : List ℕ) (small : Bytes s) where
 
 -- an image is the bytes of its own reading
 pub encode-view : (s : List ℕ) {r : Running} → Bytes s → Sized s (counts_of s) → marked s ≡ true
-    → walk_all s (counts_of s) sections (record { refs = 0; steps = 0; ports = 0 }) ≡ Clean r → owned (counts_of s) r ≡ true
+    → walk_all s (counts_of s) sections (record { refs = 0; steps = 0; ports = 0 }) ≡ Ok r → owned (counts_of s) r ≡ true
     → encode (view s) ≡ s
 encode-view s {r} small z m w own =
     lists_unique

@@ -1,4 +1,5 @@
 -- The bytes that a section's values are written as are the bytes of the section.
+use Rattle.std.specs.Prelude.{Ok, Some}
 use mathlib.Core.Path.{◌≡◌, ◌∙◌, refl, sym, ap, ap₂}
 use mathlib.Core.List.{List, [], ◌∷◌}
 use Prim.Native.Nat.{ℕ, suc, ◌+◌, ◌*◌, ◌≤◌}
@@ -8,17 +9,15 @@ use Rattle.records.specs.declared.layout.Section.{Section}
 use Rattle.records.specs.declared.layout.Section.TheVariants.{Layers, Interfaces, Stages, Locals, Types, Steps, Ports}
 use Rattle.records.specs.declared.record.StageRecord.{StageRecord}
 use Rattle.records.specs.declared.running.Running.{Running}
-use Rattle.records.specs.declared.running.Judged.TheVariants.{Next}
-use Rattle.records.specs.declared.running.Walked.TheVariants.{Clean}
 use Rattle.records.specs.Bytes.{Bytes, u8_at, u16_at}
 use Rattle.image.specs.Encode.{u16_bytes, layers_bytes, interfaces_bytes, stages_bytes, actions_bytes, local_bytes, flex_bytes, port_bytes}
 use Rattle.judging.specs.Judge.{judge, walk_section}
 use Rattle.image.specs.Kind.{concat}
-use Rattle.records.specs.Layout.{count_of, layers_at, interfaces_at, stages_at, locals_at, types_at, steps_at, ports_at, refs_at, length_of}
+use Rattle.records.specs.Layout.{count_of, layers_at, interfaces_at, stages_at, locals_at, types_at, steps_at, ports_at, refs_at, length_of, place_of}
 use Rattle.records.specs.Records.{stage_at}
 use Rattle.image.specs.View.{collect}
 use Rattle.image.specs.Vir.{Stage}
-use Rattle.image.proofs.Clean.{place_of, lists_section}
+use Rattle.image.proofs.Clean.{lists_section}
 use Rattle.image.proofs.Numbers.{Spells, spells_u8, spells_u16, spells_u32, spells_run}
 use Rattle.image.proofs.Gathered.{nth_ref, nth_port, nth_action, nth_flex, nth_local, nth_stage, nth_interface, nth_layer}
 use Rattle.image.proofs.Lists.{lists_as, lists_move, lists_concat, ◌then◌}
@@ -33,11 +32,11 @@ module _ (s : List ℕ) (small : Bytes s) (c : Counts) where
   -- a record's bytes stand where it does, and the next one's behind them
   abbrev Spelling : (x : Section) {A : Type 0} → (ℕ → A) → (Running → List A → List ℕ) → Type 0
   Spelling x {A} f out =
-      (i : ℕ) (r r' : Running) (e : ℕ) (rest : List A) → judge x s c (place_of c x i) r ≡ Next r'
+      (i : ℕ) (r r' : Running) (e : ℕ) (rest : List A) → judge x s c (place_of c x i) r ≡ Some r'
       → Spells s (place_of c x (suc i)) e (out r' rest) → Spells s (place_of c x i) e (out r (f i ∷ rest))
 
   spelled : (x : Section) {A : Type 0} (f : ℕ → A) (out : Running → List A → List ℕ) → ((r : Running) → out r [] ≡ []) → Spelling x f out
-      → (r q : Running) → walk_section s c x r ≡ Clean q
+      → (r q : Running) → walk_section s c x r ≡ Ok q
       → Spells s (place_of c x 0) (place_of c x (count_of c x)) (out r (collect f 0 (count_of c x)))
   spelled x f out = lists_section s c x (u8_at s) (λ i r. place_of c x i) f out
 
@@ -51,7 +50,7 @@ module _ (s : List ℕ) (small : Bytes s) (c : Counts) where
       then spells_run s small (p + 2) (place_of c Layers (suc i)) t.first n (omega arith)
       then lists_as (ap (λ (k : ℕ). layers_bytes k rest) (sym t.refs ∙ ap (λ (k : ℕ). r.refs + k) n)) l
 
-  pub layers_spelled : (r q : Running) → walk_section s c Layers r ≡ Clean q
+  pub layers_spelled : (r q : Running) → walk_section s c Layers r ≡ Ok q
       → Spells s (layers_at c) (interfaces_at c) (layers_bytes r.refs (collect (nth_layer s c) 0 c.layers))
   unfolding layers_bytes
   layers_spelled r q w =
@@ -69,7 +68,7 @@ module _ (s : List ℕ) (small : Bytes s) (c : Counts) where
       then spells_run s small (p + 5) (place_of c Interfaces (suc i)) t.first n (omega arith)
       then lists_as (ap (λ (k : ℕ). interfaces_bytes k rest) (sym t.refs ∙ ap (λ (k : ℕ). r.refs + k) n)) l
 
-  pub interfaces_spelled : (r q : Running) → walk_section s c Interfaces r ≡ Clean q
+  pub interfaces_spelled : (r q : Running) → walk_section s c Interfaces r ≡ Ok q
       → Spells s (interfaces_at c) (stages_at c) (interfaces_bytes r.refs (collect (nth_interface s c) 0 c.interfaces))
   unfolding interfaces_bytes
   interfaces_spelled r q w =
@@ -102,7 +101,7 @@ module _ (s : List ℕ) (small : Bytes s) (c : Counts) where
       then spells_u8 s small (p + 29) (place_of c Stages (suc i)) payload (omega arith)
       then lists_as next l
 
-  pub stages_spelled : (r q : Running) → walk_section s c Stages r ≡ Clean q
+  pub stages_spelled : (r q : Running) → walk_section s c Stages r ≡ Ok q
       → Spells s (stages_at c) (locals_at c) (stages_bytes r.refs r.steps r.ports (collect (nth_stage s c) 0 c.stages))
   unfolding stages_bytes
   stages_spelled r q w =
@@ -151,7 +150,7 @@ module _ (s : List ℕ) (small : Bytes s) (c : Counts) where
       then spells_run s small (p + 7) (place_of c Steps (suc i)) t.first n (omega arith)
       then lists_as (ap (λ (k : ℕ). actions_bytes k rest) (sym t.ports ∙ ap (λ (k : ℕ). r.ports + k) n)) l
 
-  pub steps_spelled : c.layers ≤ 64 → (r q : Running) → walk_section s c Steps r ≡ Clean q
+  pub steps_spelled : c.layers ≤ 64 → (r q : Running) → walk_section s c Steps r ≡ Ok q
       → Spells s (steps_at c) (ports_at c) (actions_bytes r.ports (collect (nth_action s c) 0 c.steps))
   unfolding actions_bytes
   steps_spelled few r q w =
@@ -169,7 +168,7 @@ module _ (s : List ℕ) (small : Bytes s) (c : Counts) where
       then spells_u16 s small (p + 7) (place_of c Ports (suc i)) t.b (omega arith)
       then l
 
-  pub ports_spelled : (r q : Running) → walk_section s c Ports r ≡ Clean q
+  pub ports_spelled : (r q : Running) → walk_section s c Ports r ≡ Ok q
       → Spells s (ports_at c) (refs_at c) (concat port_bytes (collect (nth_port s c) 0 c.ports))
   unfolding concat
   ports_spelled r q w =

@@ -6,7 +6,7 @@ use native.Mathlib.Nat.{add-zero, zero-add, le_of_suc-le-suc, not-suc-le-zero}
 use native.Mathlib.Omega.{arith}
 use lib.ListN.{length, get_or, take, drop, length-append, length-take, length-drop, get_or-append}
 use lib.Seq.{get_or-append-add, get_or-drop, get_or-take}
-use Rattle.effect.proofs.Finite.{get_or_any}
+use Rattle.std.proofs.lemmas.List.{get_or_default}
 use Rattle.records.specs.Bytes.{u8_at, u16_at, u32_at}
 use Rattle.image.specs.Encode.{u16_bytes, u32_bytes}
 use Rattle.image.specs.Kind.{concat}
@@ -66,7 +66,7 @@ module _ {A : Type 0} {h : ℕ → A} where
       λ i. first i ∷ rest i
 
 pub stands_whole : (s : List ℕ) → Stands (u8_at s) 0 s
-stands_whole s = record { at = λ d k b. ap (u8_at s) (zero-add k) ∙ get_or_any s k 0 d b }
+stands_whole s = record { at = λ d k b. ap (u8_at s) (zero-add k) ∙ get_or_default s k 0 d b }
 
 -- numbers whose bytes begin at the k-th
 module _ (s : List ℕ) {a : ℕ} {l : List ℕ} (k : ℕ) (x : Stands (u8_at s) a l) where

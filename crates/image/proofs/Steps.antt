@@ -1,13 +1,13 @@
 -- Which steps name what: of all tags only 6 enters an interface, and only 7 names a layer.
+use Rattle.std.specs.Prelude.{None}
 use mathlib.Core.Path.{◌≡◌, ◌∙◌, refl, sym, ap}
-use mathlib.Core.Bool.{Bool, true, ◌&&◌, ◌||◌}
+use mathlib.Core.Bool.{Bool, true, false, ◌&&◌, ◌||◌}
 use mathlib.Core.List.{List, [], ◌∷◌}
 use Prim.Native.Nat.{ℕ, zero, suc, ◌+◌, ◌<◌, min}
 use native.Mathlib.Omega.{arith}
 use lib.Dec.{eqb}
 use lib.ListN.{length, get_or}
-use borrow.Author.Tests.{eqb-true, ne_eqb}
-use Rattle.vir.specs.declared.step.FoundStep.TheVariants.{Nothing as NoStep}
+use borrow.Author.Tests.{eqb-true, eqb-false, ne_eqb}
 use Rattle.vir.specs.Ids.{none}
 use Rattle.vir.specs.Step.{steps, step_of}
 use Rattle.image.specs.LayerRules.{transfer_to, diverge_to}
@@ -41,7 +41,19 @@ module _ (tag a b : ℕ) where
 
   pub transfer-none : (tag ≡ 6 → ⊥) → transfer_to (step_in (step_of tag a b)) ≡ []
   unfolding step_of
-  transfer-none h = only_at_lem (λ f. transfer_to (step_in f)) 6 0 (steps a b) NoStep refl refl tag (λ z. h (omega arith))
+  transfer-none h = only_at_lem (λ f. transfer_to (step_in f)) 6 0 (steps a b) None refl refl tag (λ z. h (omega arith))
+
+  -- an entered interface is the field of the tag that enters one
+  pub transfer_named : {i : ℕ} → transfer_to (step_in (step_of tag a b)) ≡ i ∷ [] → (tag ≡ 6) × (b ≡ i)
+  transfer_named {i} e = go (eqb tag 6) refl
+    where
+      go : (t : Bool) → eqb tag 6 ≡ t → (tag ≡ 6) × (b ≡ i)
+      go true h =
+          let one : b ∷ [] ≡ i ∷ [] = sym (transfer_one (eqb-true tag 6 h)) ∙ e in
+          (eqb-true tag 6 h, cc)
+      go false h =
+          let other : [] ≡ i ∷ [] = sym (transfer-none (eqb-false tag 6 h)) ∙ e in
+          absurd cc
 
   pub diverge_one : tag ≡ 7 → a < none → diverge_to (step_in (step_of tag a b)) ≡ a ∷ []
   unfolding step_of
@@ -51,4 +63,4 @@ module _ (tag a b : ℕ) where
 
   pub diverge_none : (tag ≡ 7 → ⊥) → diverge_to (step_in (step_of tag a b)) ≡ []
   unfolding step_of
-  diverge_none h = only_at_lem (λ f. diverge_to (step_in f)) 7 0 (steps a b) NoStep refl refl tag (λ z. h (omega arith))
+  diverge_none h = only_at_lem (λ f. diverge_to (step_in f)) 7 0 (steps a b) None refl refl tag (λ z. h (omega arith))

@@ -6,7 +6,7 @@ use Prim.Native.Nat.{ℕ, zero, suc, ◌+◌, ◌-◌, ◌<◌, ◌≤◌, min}
 use native.Mathlib.Numerals.{add-one}
 use native.Mathlib.Omega.{arith}
 use lib.Dec.{eqb, ltb, leb}
-use borrow.Author.Tests.{eq-eqb, ne_eqb, lt-ltb, ltb-true, ltb-false, eqb-true, eqb-false}
+use borrow.Author.Tests.{ne_eqb, lt-ltb, ltb-true, ltb-false, eqb-true, eqb-false}
 use lib.ListN.{length, get_or, set, length-set, replicate, length-replicate, get_or-replicate}
 use lib.Seq.{get_or-set_same, get_or-set_other}
 use Rattle.vir.specs.Ids.{none}
@@ -16,13 +16,16 @@ use Rattle.image.specs.Tally.{bump, tally, tally_entry, owns, counted_at}
 use Rattle.image.specs.View.{collect}
 use Rattle.records.proofs.Every.{every_cong}
 
-pub record Tallying (f : ℕ → Bool) (g : ℕ → ℕ) (all_own : Bool) (counted : List ℕ) (k left : ℕ) (ok : Bool) (counts : List ℕ) : Type 0 where
-  pub own : (ok && all f (present (collect g k left))) ≡ all_own
-  pub ahead : tally (present (collect g k left)) counts ≡ counted
+-- the entries from k up to the end are ahead
+pub record Tallying (f : ℕ → Bool) (g : ℕ → ℕ) (all_own : Bool) (counted : List ℕ) (end k : ℕ) (ok : Bool) (counts : List ℕ) : Type 0 where
+  pub own : (ok && all f (present (collect g k (end - k)))) ≡ all_own
+  pub ahead : tally (present (collect g k (end - k))) counts ≡ counted
 
-pub tallying_start : (f : ℕ → Bool) (g : ℕ → ℕ) (k left : ℕ) (counts : List ℕ)
-    → Tallying f g (all f (present (collect g k left))) (tally (present (collect g k left)) counts) k left true counts
-tallying_start f g k left counts = record { own = refl; ahead = refl }
+pub tallying_start : (f : ℕ → Bool) (g : ℕ → ℕ) (k n : ℕ) (counts : List ℕ)
+    → Tallying f g (all f (present (collect g k n))) (tally (present (collect g k n)) counts) (k + n) k true counts
+tallying_start f g k n counts =
+    let whole : k + n - k ≡ n = omega arith in
+    record { own = ap (λ (m : ℕ). all f (present (collect g k m))) whole; ahead = ap (λ (m : ℕ). tally (present (collect g k m)) counts) whole }
 
 -- an entry and those behind it
 own_step : (f : ℕ → Bool) (e : ℕ) (es : List ℕ) (ok : Bool) → (ok && all f (present (e ∷ es))) ≡ (owns f e ok && all f (present es))
@@ -42,35 +45,33 @@ tally-step e es counts = go (eqb e none)
     go true = refl
     go false = refl
 
-module _ (f : ℕ → Bool) (e : ℕ) (ok : Bool) (counts : List ℕ) where
-  pub entry-none : e ≡ none → (ok ≡ owns f e ok) × (counts ≡ tally_entry e counts)
-  entry-none h = (simp (eq-eqb _ _ h), simp (eq-eqb _ _ h))
-
-  pub entry-some : {r : Bool} {after : List ℕ} → (e ≡ none → ⊥) → r ≡ f e → after ≡ set counts e (bump (get_or counts e 0))
-      → ((ok && r) ≡ owns f e ok) × (after ≡ tally_entry e counts)
-  entry-some h p q = (rw p (simp (ne_eqb _ _ h)), rw q (simp (ne_eqb _ _ h)))
-
 module _ {f : ℕ → Bool} {g : ℕ → ℕ} {all_own : Bool} {counted : List ℕ} where
-  pub tallying_on : {k left : ℕ} {ok ok' : Bool} {counts counts' : List ℕ} → Tallying f g all_own counted k left ok counts → (left ≡ 0 → ⊥)
+  pub tallying_on : {end k : ℕ} {ok ok' : Bool} {counts counts' : List ℕ} → Tallying f g all_own counted end k ok counts → k < end
       → ok' ≡ owns f (g k) ok → counts' ≡ tally_entry (g k) counts
-      → Tallying f g all_own counted (k + 1) (left - 1) ok' counts'
+      → Tallying f g all_own counted end (k + 1) ok' counts'
   unfolding collect
-  tallying_on {left = zero} w h e p = absurd (h refl)
-  tallying_on {k} {left = suc n} {ok} {counts = counts} w h e p =
-      let pred : suc n - 1 ≡ n = omega arith in
-      let rest : collect g (k + 1) (suc n - 1) ≡ collect g (suc k) n = ap₂ (collect g) (add-one k) pred in
+  tallying_on {end} {k} {ok} {ok'} {counts} {counts'} w h e p =
+      let one : end - k ≡ suc (end - (k + 1)) = omega arith in
+      let rest : List ℕ = collect g (suc k) (end - (k + 1)) in
+      let here : collect g k (end - k) ≡ g k ∷ rest = ap (collect g k) one in
+      let next : collect g (k + 1) (end - (k + 1)) ≡ rest = ap (λ (j : ℕ). collect g j (end - (k + 1))) (add-one k) in
       record {
-        own = ap₂ (λ (o : Bool) (l : List ℕ). o && all f (present l)) e rest ∙ sym (own_step f (g k) (collect g (suc k) n) ok) ∙ w.own;
-        ahead = ap₂ (λ (cs l : List ℕ). tally (present l) cs) p rest ∙ sym (tally-step (g k) (collect g (suc k) n) counts) ∙ w.ahead;
+        own =
+            ap₂ (λ (o : Bool) (l : List ℕ). o && all f (present l)) e next ∙ sym (own_step f (g k) rest ok)
+            ∙ sym (ap (λ (l : List ℕ). ok && all f (present l)) here) ∙ w.own;
+        ahead =
+            ap₂ (λ (cs l : List ℕ). tally (present l) cs) p next ∙ sym (tally-step (g k) rest counts)
+            ∙ sym (ap (λ (l : List ℕ). tally (present l) counts) here) ∙ w.ahead;
       }
 
-  pub tallying_end : {k left : ℕ} {ok : Bool} {counts : List ℕ} → Tallying f g all_own counted k left ok counts → left ≡ 0
+  pub tallying_end : {end k : ℕ} {ok : Bool} {counts : List ℕ} → Tallying f g all_own counted end k ok counts → end ≤ k
       → (ok ≡ all_own) × (counts ≡ counted)
   unfolding collect all present tally
-  tallying_end {k} {left} {ok} {counts} w h = (
-    sym (and-true ok) ∙ sym (ap (λ (n : ℕ). ok && all f (present (collect g k n))) h) ∙ w.own,
-    sym (ap (λ (n : ℕ). tally (present (collect g k n)) counts) h) ∙ w.ahead,
-  )
+  tallying_end {end} {k} {ok} {counts} w h =
+      let none : end - k ≡ 0 = omega arith in (
+        sym (and-true ok) ∙ sym (ap (λ (n : ℕ). ok && all f (present (collect g k n))) none) ∙ w.own,
+        sym (ap (λ (n : ℕ). tally (present (collect g k n)) counts) none) ∙ w.ahead,
+      )
 
 bump_min : (n : ℕ) → n ≤ 2 → bump n ≡ min 2 (n + 1)
 bump_min n h = go (ltb n 2) refl

@@ -1,4 +1,5 @@
 -- What a record that is not at fault shows of its fields, and of the running places behind it.
+use Rattle.std.specs.Prelude.{Some}
 use mathlib.Core.Path.{◌≡◌, sym, ap}
 use mathlib.Core.Bool.{Bool, true, ◌&&◌, ◌||◌}
 use mathlib.Core.List.{List}
@@ -17,7 +18,6 @@ use Rattle.records.specs.declared.record.StageRecord.{StageRecord}
 use Rattle.records.specs.declared.record.StepRecord.{StepRecord}
 use Rattle.records.specs.declared.record.PortRecord.{PortRecord}
 use Rattle.records.specs.declared.running.Running.{Running}
-use Rattle.records.specs.declared.running.Judged.TheVariants.{Next}
 use Rattle.image.specs.Encode.{step_a, step_b, port_a, port_b}
 use Rattle.rules.specs.Faults.{or_none, laid, ports_laid, type_named, refs_below, layer_fields, layer_good, kind_lists, entries_named, interface_fields, interface_good, header_has, transfer_good, stage_named, stage_lists, stage_fields, stage_good, local_good, type_good, step_has, step_named, step_good, port_good}
 use Rattle.judging.specs.Judge.{judge}
@@ -66,7 +66,7 @@ pub record PortTurn (r r' : Running) (p : PortRecord) : Type 0 where
   pub same : r ≡ r'
 
 module _ (s : List ℕ) (c : Counts) (p : ℕ) (r r' : Running) where
-  pub layer-turn : judge Layers s c p r ≡ Next r' → LayerTurn r r' (layer_at s p)
+  pub layer-turn : judge Layers s c p r ≡ Some r' → LayerTurn r r' (layer_at s p)
   unfolding layer_good
   layer-turn j =
       let l : LayerRecord = layer_at s p in
@@ -79,7 +79,7 @@ module _ (s : List ℕ) (c : Counts) (p : ℕ) (r r' : Running) where
         ports = sym (ap (λ (q : Running). q.ports) next);
       }
 
-  pub interface-turn : judge Interfaces s c p r ≡ Next r' → InterfaceTurn r r' (interface_at s p)
+  pub interface-turn : judge Interfaces s c p r ≡ Some r' → InterfaceTurn r r' (interface_at s p)
   unfolding interface_good
   interface-turn j =
       let i : InterfaceRecord = interface_at s p in
@@ -95,7 +95,7 @@ module _ (s : List ℕ) (c : Counts) (p : ℕ) (r r' : Running) where
         ports = sym (ap (λ (q : Running). q.ports) next);
       }
 
-  pub stage-turn : judge Stages s c p r ≡ Next r' → StageTurn r r' (stage_at s p)
+  pub stage-turn : judge Stages s c p r ≡ Some r' → StageTurn r r' (stage_at s p)
   unfolding stage_good
   stage-turn j =
       let t : StageRecord = stage_at s p in
@@ -121,13 +121,13 @@ module _ (s : List ℕ) (c : Counts) (p : ℕ) (r r' : Running) where
         ports = ap (λ (q : Running). q.ports) next;
       }
 
-  pub local-turn : judge Locals s c p r ≡ Next r' → r ≡ r'
+  pub local-turn : judge Locals s c p r ≡ Some r' → r ≡ r'
   local-turn j = moved (local_good c (local_at s p)) _ j
 
-  pub type-turn : judge Types s c p r ≡ Next r' → r ≡ r'
+  pub type-turn : judge Types s c p r ≡ Some r' → r ≡ r'
   type-turn j = moved (type_good (type_at s p)) _ j
 
-  pub step-turn : c.layers ≤ 64 → judge Steps s c p r ≡ Next r' → StepTurn r r' (step_at s p)
+  pub step-turn : c.layers ≤ 64 → judge Steps s c p r ≡ Some r' → StepTurn r r' (step_at s p)
   step-turn few j =
       let t : StepRecord = step_at s p in
       let next = moved (step_good c r t) _ j in
@@ -146,7 +146,7 @@ module _ (s : List ℕ) (c : Counts) (p : ℕ) (r r' : Running) where
         steps = sym (ap (λ (q : Running). q.steps) next);
       }
 
-  pub port_turn : judge Ports s c p r ≡ Next r' → PortTurn r r' (port_at s p)
+  pub port_turn : judge Ports s c p r ≡ Some r' → PortTurn r r' (port_at s p)
   port_turn j =
       let t : PortRecord = port_at s p in
       let good : port_good c t ≡ true = passed (port_good c t) _ j in

@@ -1,20 +1,17 @@
 -- What check answers, in document 01's order of refusals.
-use Rattle.std.specs.Prelude.{Bool, true, false, ◌&&◌, List, ℕ, eqb, ltb, length}
+use Rattle.std.specs.Prelude.{Bool, true, false, ◌&&◌, List, ℕ, eqb, ltb, length, Err, Ok, Result}
 use Rattle.image.specs.declared.answer.Answer.{Answer}
 use Rattle.records.specs.declared.layout.Counts.{Counts}
 use Rattle.records.specs.declared.running.Running.{Running}
-use Rattle.records.specs.declared.running.Walked.{Walked}
-use Rattle.records.specs.declared.running.Walked.TheVariants.{At, Clean}
 use Rattle.records.specs.Bytes.{u8_at, u16_at}
 use Rattle.judging.specs.Judge.{walk_all}
+use Rattle.image.specs.Answer.{refused}
 use Rattle.image.specs.Kind.{kind_of_vir}
 use Rattle.image.specs.LayerRules.{layer_rules}
 use Rattle.records.specs.Layout.{version, counts_of, within, length_of, sections}
 use Rattle.image.specs.View.{view_of}
 use Rattle.image.specs.Vir.{Vir}
-
-abbrev pub refused : ℕ → ℕ → Answer
-refused code place = record { code = code; place = place; kind = 0 }
+use Rattle.records.specs.declared.running.Fault.{Fault}
 
 -- `VIR` and version 1
 abbrev pub marked : List ℕ → Bool
@@ -37,9 +34,9 @@ kind_answer v =
     ]
 
 -- 6 record: the first record at fault, or the image length if only an unowned list entry remains
-abbrev pub record_answer : List ℕ → Counts → Walked → Answer
-record_answer s c (At p) = refused 6 p
-record_answer s c (Clean r) = elim (owned c r) [ true ↦ kind_answer (view_of s c) | false ↦ refused 6 (length s) ]
+abbrev pub record_answer : List ℕ → Counts → Result Running Fault → Answer
+record_answer s c (Err f) = refused 6 f.0
+record_answer s c (Ok r) = elim (owned c r) [ true ↦ kind_answer (view_of s c) | false ↦ refused 6 (length s) ]
 
 -- 2 short, 3 mark, 4 count, 5 length
 unfoldable pub check_of : List ℕ → Answer

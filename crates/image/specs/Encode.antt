@@ -1,10 +1,8 @@
 -- A value written out as an image: the records in file order, the lists laid end to end.
 -- (Nothing is cut off: a number that does not fit its field leaves one above 255. `encoded` of wellformed says that a well-formed value gives bytes.)
-use Rattle.std.specs.Prelude.{Bool as Truth, true, not, ◌&&◌, List, [], ◌∷◌, ◌++◌, ◌≡◌, ℕ, ◌+◌, ◌/◌, ◌%◌, eqb, leb, length}
+use Rattle.std.specs.Prelude.{Bool as Truth, true, not, ◌&&◌, List, [], ◌∷◌, ◌++◌, ◌≡◌, ℕ, ◌+◌, ◌/◌, ◌%◌, eqb, leb, length, None, Option, Some}
 use Rattle.vir.specs.declared.port.PortKind.{PortKind}
 use Rattle.vir.specs.declared.port.PortKind.TheVariants.{Nil, Bool, N32, F32, F64, Nat, Wire, Error}
-use Rattle.vir.specs.declared.step.Onward.{Onward}
-use Rattle.vir.specs.declared.step.Onward.TheVariants.{To, Nowhere}
 use Rattle.vir.specs.declared.step.Step.{Step}
 use Rattle.vir.specs.declared.step.Step.TheVariants.{Invoke, Transfer, Diverge, Link, Call, Const, Composite, Rewrap, Enum, Union, Ref, List as Listing, String, InlineIvy, BoolNot, BoolAnd}
 use Rattle.vir.specs.Header.{header_number}
@@ -16,6 +14,7 @@ use Rattle.records.specs.declared.layout.Counts.{Counts}
 use Rattle.records.specs.Layout.{version}
 use Rattle.image.specs.Kind.{all, concat}
 use Rattle.image.specs.Vir.{Layer, Interface, Port, Action, Stage, Local, Flex, Vir}
+use Rattle.vir.specs.declared.ids.InterfaceId.{InterfaceId}
 
 abbrev pub u16_bytes : ℕ → List ℕ
 u16_bytes n = n % 256 ∷ n / 256 ∷ []
@@ -46,9 +45,9 @@ step_a (InlineIvy k) = k
 step_a (BoolNot k) = k
 step_a (BoolAnd k) = k
 
-abbrev pub onward_b : Onward → ℕ
-onward_b (To i) = i.0
-onward_b Nowhere = none
+abbrev pub onward_b : Option InterfaceId → ℕ
+onward_b (Some i) = i.0
+onward_b None = none
 
 abbrev pub step_b : Step → ℕ
 step_b (Invoke span l i) = l.0
@@ -198,9 +197,9 @@ encode v =
     ++ concat u16_bytes (all_refs v)
 
 -- a Diverge that goes to `none` has the bytes of one that goes nowhere
-abbrev pub plain_onward : Onward → Truth
-plain_onward (To i) = not (eqb i.0 none)
-plain_onward Nowhere = true
+abbrev pub plain_onward : Option InterfaceId → Truth
+plain_onward (Some i) = not (eqb i.0 none)
+plain_onward None = true
 
 -- its layer, a u16 in the Rust, is written in 32 bits, and one that needs more than 16 is read as `none`
 abbrev pub plain_step : Step → Truth

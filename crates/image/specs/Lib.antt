@@ -1,13 +1,17 @@
 pub mod Accepted
+pub mod Answer
 pub mod Call
 pub mod Check
 pub mod Encode
 pub mod Entering
 pub mod Kind
 pub mod LayerRules
+pub mod Listing
 pub mod Loops
+pub mod Props
 pub mod Samples
 pub mod Stands
 pub mod Tally
 pub mod View
+pub mod Viewed
 pub mod Vir

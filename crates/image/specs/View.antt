@@ -1,19 +1,11 @@
 -- An accepted image, read as a value. (On other bytes it is some value; nothing rests on which.)
-use Rattle.std.specs.Prelude.{List, [], ◌∷◌, ℕ, zero, suc, ◌+◌, ◌*◌}
-use Rattle.vir.specs.declared.header.FoundHeader.{FoundHeader}
-use Rattle.vir.specs.declared.header.FoundHeader.TheVariants.{Header as AHeader, Nothing as NoHeader}
+use Rattle.std.specs.Prelude.{List, [], ◌∷◌, ℕ, zero, suc, ◌+◌, ◌*◌, None, Option, Some}
 use Rattle.vir.specs.declared.header.Header.{Header}
 use Rattle.vir.specs.declared.header.Header.TheVariants.{Bare}
-use Rattle.vir.specs.declared.interface.FoundKind.{FoundKind}
-use Rattle.vir.specs.declared.interface.FoundKind.TheVariants.{Kind, Nothing as NoKind}
 use Rattle.vir.specs.declared.interface.InterfaceKind.{InterfaceKind}
 use Rattle.vir.specs.declared.interface.InterfaceKind.TheVariants.{Unconditional}
-use Rattle.vir.specs.declared.port.FoundPort.{FoundPort}
-use Rattle.vir.specs.declared.port.FoundPort.TheVariants.{Port as APort, Nothing as NoPort}
 use Rattle.vir.specs.declared.port.PortKind.{PortKind}
 use Rattle.vir.specs.declared.port.PortKind.TheVariants.{Nil}
-use Rattle.vir.specs.declared.step.FoundStep.{FoundStep}
-use Rattle.vir.specs.declared.step.FoundStep.TheVariants.{Step as AStep, Nothing as NoStep}
 use Rattle.vir.specs.declared.step.Step.{Step}
 use Rattle.vir.specs.declared.step.Step.TheVariants.{Link}
 use Rattle.vir.specs.Header.{header_of}
@@ -40,21 +32,21 @@ collect f i zero = []
 collect f i (suc n) = f i ∷ collect f (suc i) n
 
 -- what a tag names; an accepted image has no other
-abbrev pub header_in : FoundHeader → Header
-header_in (AHeader h) = h
-header_in NoHeader = Bare
+abbrev pub header_in : Option Header → Header
+header_in (Some h) = h
+header_in None = Bare
 
-abbrev pub kind_in : FoundKind → InterfaceKind
-kind_in (Kind k) = k
-kind_in NoKind = Unconditional
+abbrev pub kind_in : Option InterfaceKind → InterfaceKind
+kind_in (Some k) = k
+kind_in None = Unconditional
 
-abbrev pub port_in : FoundPort → PortKind
-port_in (APort p) = p
-port_in NoPort = Nil 0
+abbrev pub port_in : Option PortKind → PortKind
+port_in (Some p) = p
+port_in None = Nil 0
 
-abbrev pub step_in : FoundStep → Step
-step_in (AStep s) = s
-step_in NoStep = Link 0
+abbrev pub step_in : Option Step → Step
+step_in (Some s) = s
+step_in None = Link 0
 
 module _ (s : List ℕ) (c : Counts) where
   -- the refs, ports and steps from a place of their section on

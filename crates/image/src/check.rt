@@ -1,32 +1,26 @@
 // The answers that an image can get, code by code.
-ghost use Rattle.std.specs.Prelude.{◌≡◌, List, ℕ, ◌≤◌, ◌<◌, length, take};
-ghost use Rattle.image.specs.Check.{refused, marked, owned, kind_answer, record_answer, check_of};
-ghost use Rattle.image.specs.Accepted.{Accepted};
+ghost use Rattle.std.specs.Prelude.{◌≡◌, List, ℕ, ◌≤◌, ◌<◌, length, take, Err, MatchResult};
+ghost use Rattle.image.specs.Answer.{answer_of};
+ghost use Rattle.image.specs.Check.{marked, owned, kind_answer, record_answer, check_of};
 ghost use Rattle.image.specs.LayerRules.{layer_rules};
-ghost use Rattle.image.specs.View.{view_of};
+ghost use Rattle.image.specs.Viewed.{viewed};
 ghost use Rattle.judging.specs.Judge.{walk_all};
-ghost use Rattle.records.specs.Layout.{sections, Sized};
+ghost use Rattle.records.specs.Layout.{sections};
 
-use crate::answer::Answer;
+use crate::accepted::Judged;
+use crate::answer::{Answer, Kind, Refusal};
 use crate::entering::{entered_once, jump_all};
 use crate::kind::kind;
 use crate::layer_rules::{interfaces_lie, parents_below};
-use crate::layered::own_layers;
+use crate::layered::Layered;
+use crate::listers::own_all;
 use crate::tally::counted;
 use judging::walk::walk;
+use records::Records;
 use records::bytes::u32_at;
 use records::layout::{Counts, HEAD, VERSION};
-use records::running::{Running, Walked};
-
-fn refused(code: u32, place: u32) -> Answer
-    ensures { result ≡ refused code place }
-{
-    Answer {
-        code,
-        place,
-        kind: 0,
-    }
-}
+use records::record::LayerRecord;
+use records::running::Running;
 
 // "IR" and the version are one word.
 fn marked(s: &[u8]) -> bool
@@ -34,6 +28,28 @@ fn marked(s: &[u8]) -> bool
     ensures { result ≡ marked s.now }
 {
     (s[0] == 86) & (u32_at(s, 1) == 21065 + 65536 * (VERSION as u32))
+}
+
+// 2 short, 3 mark, 4 count, 5 length.
+fn laid_out(bytes: &[u8]) -> Result<Records, Refusal>
+    ensures { MatchResult result
+        (λ records. (records.bytes.now ≡ bytes.now) × (check_of bytes.now ≡ record_answer bytes.now records.counts (walk_all bytes.now records.counts sections (record { refs = 0; steps = 0; ports = 0 }))))
+        (λ refusal. answer_of (Err refusal) ≡ check_of bytes.now) }
+{
+    if bytes.len() < HEAD {
+        return Err(Refusal::Short);
+    }
+    if !marked(bytes) {
+        return Err(Refusal::Mark);
+    }
+    let counts = Counts::read(bytes);
+    if !counts.within() {
+        return Err(Refusal::Count);
+    }
+    if bytes.len() != counts.length() {
+        return Err(Refusal::Length);
+    }
+    Ok(Records { bytes, counts })
 }
 
 fn owned(c: Counts, r: Running) -> bool
@@ -44,106 +60,92 @@ fn owned(c: Counts, r: Running) -> bool
         & (r.ports == (c.ports as usize))
 }
 
-fn layer_rules(s: &[u8], c: Counts) -> bool
-    requires { Accepted s.now c }
-    ensures { result ≡ layer_rules (view_of s.now c) }
+// 6 record.
+fn accepted(records: Records) -> Result<Judged, Refusal>
+    ensures { MatchResult result
+        (λ image. (image.records.bytes.now ≡ records.entry.bytes.now) × (record_answer records.entry.bytes.now records.entry.counts (walk_all records.entry.bytes.now records.entry.counts sections (record { refs = 0; steps = 0; ports = 0 })) ≡ kind_answer (viewed image.records)))
+        (λ refusal. answer_of (Err refusal) ≡ record_answer records.entry.bytes.now records.entry.counts (walk_all records.entry.bytes.now records.entry.counts sections (record { refs = 0; steps = 0; ports = 0 }))) }
 {
-    if !parents_below(s, c) {
+    let ends = walk(&records)?;
+    if !owned(records.counts, ends) {
+        return Err(Refusal::Record(records.bytes.len() as u32));
+    }
+    Ok(Judged { records })
+}
+
+// The rules in document 01's order.
+fn layer_rules(image: &Judged) -> bool
+    ensures { result ≡ layer_rules (viewed image.now.records) }
+{
+    let records = &image.records;
+    if !parents_below(records) {
         return false;
     }
     let mut counts = [0u8; 256];
-    if !own_layers(s, c, &mut counts) {
+    if !own_all::<LayerRecord>(image, &mut counts) {
         return false;
     }
-    if !counted(&counts, c.stages, 1) {
+    if !counted(&counts, records.counts.stages, 1) {
         return false;
     }
-    if !interfaces_lie(s, c) {
+    if !interfaces_lie(records) {
         return false;
     }
+    let layered = Layered { image: *image };
     let mut entered = [0u8; 256];
-    let found = jump_all(s, c, &mut entered);
-    if !found.entered {
+    let jumps = jump_all(&layered, &mut entered);
+    if !jumps.entered {
         return false;
     }
-    if !entered_once(s, c, &entered) {
+    if !entered_once(records, &entered) {
         return false;
     }
-    found.out
+    jumps.out
 }
 
 // 7 kind, 8 layers.
-fn judge_kind(s: &[u8], c: Counts) -> Answer
-    requires { Accepted s.now c }
-    ensures { result ≡ kind_answer (view_of s.now c) }
+fn judge_kind(image: &Judged) -> Result<Kind, Refusal>
+    ensures { answer_of result ≡ kind_answer (viewed image.now.records) }
 {
-    let found = kind(s, c);
-    if found == 0 {
-        return refused(7, 0);
+    let found = kind(image).ok_or(Refusal::Kind)?;
+    if found == Kind::Layered && !layer_rules(image) {
+        return Err(Refusal::Layers);
     }
-    if found == 1 {
-        return Answer {
-            code: 0,
-            place: 0,
-            kind: 1,
-        };
-    }
-    if !layer_rules(s, c) {
-        return refused(8, 0);
-    }
-    Answer {
-        code: 0,
-        place: 0,
-        kind: 2,
-    }
+    Ok(found)
 }
 
-// 6 record.
-fn judge_records(s: &[u8], c: Counts) -> Answer
-    requires { Sized s.now c }
-    ensures { result ≡ record_answer s.now c
-        (walk_all s.now c sections (record { refs = 0; steps = 0; ports = 0 })) }
+// The kind of an image, or the first reason to refuse it.
+pub fn judge(bytes: &[u8]) -> Result<Kind, Refusal>
+    ensures { answer_of result ≡ check_of bytes.now }
 {
-    match walk(s, c) {
-        Walked::At(p) => refused(6, p),
-        Walked::Clean(r) => {
-            if !owned(c, r) {
-                return refused(6, s.len() as u32);
-            }
-            judge_kind(s, c)
-        }
-    }
+    let records = laid_out(bytes)?;
+    let image = accepted(records)?;
+    judge_kind(&image)
 }
 
-pub fn check(s: &[u8]) -> Answer
-    ensures { result ≡ check_of s.now }
+pub fn check(bytes: &[u8]) -> Answer
+    ensures { result ≡ check_of bytes.now }
 {
-    if s.len() < HEAD {
-        return refused(2, 0);
-    }
-    if !marked(s) {
-        return refused(3, 0);
-    }
-    let c = Counts::read(s);
-    if !c.within() {
-        return refused(4, 0);
-    }
-    if s.len() != c.length() {
-        return refused(5, 0);
-    }
-    judge_records(s, c)
+    Answer::from(judge(bytes))
 }
 
-// An image that is longer than the largest, by its first bytes alone: nothing needs the rest.
+// Why an image that is longer than the largest is refused, by its first bytes alone: nothing needs the rest.
+fn refused_long(head: &[u8]) -> Refusal
+    requires { 21 ≤ length head.now }
+    ensures { (s : List ℕ) → take 21 s ≡ take 21 head.now → 63893 < length s → answer_of (Err result) ≡ check_of s }
+{
+    if !marked(head) {
+        return Refusal::Mark;
+    }
+    if !Counts::read(head).within() {
+        return Refusal::Count;
+    }
+    Refusal::Length
+}
+
 pub fn check_long(head: &[u8]) -> Answer
     requires { 21 ≤ length head.now }
     ensures { (s : List ℕ) → take 21 s ≡ take 21 head.now → 63893 < length s → result ≡ check_of s }
 {
-    if !marked(head) {
-        return refused(3, 0);
-    }
-    if !Counts::read(head).within() {
-        return refused(4, 0);
-    }
-    refused(5, 0)
+    Answer::from(Err(refused_long(head)))
 }

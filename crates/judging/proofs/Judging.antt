@@ -1,4 +1,5 @@
 -- A good record's lists end within their sections, so the running places stay small; and what judging answers by its test.
+use Rattle.std.specs.Prelude.{None, Some}
 use mathlib.Core.Path.{◌≡◌, ◌∙◌, sym, ap}
 use mathlib.Core.Bool.{Bool, true, false, not, cond, ◌&&◌, ◌||◌}
 use mathlib.Core.List.{List}
@@ -14,16 +15,15 @@ use Rattle.records.specs.declared.record.InterfaceRecord.{InterfaceRecord}
 use Rattle.records.specs.declared.record.StageRecord.{StageRecord}
 use Rattle.records.specs.declared.record.StepRecord.{StepRecord}
 use Rattle.records.specs.declared.running.Running.{Running}
-use Rattle.records.specs.declared.running.Judged.TheVariants.{Fault, Next}
 use Rattle.rules.specs.Faults.{or_none, laid, ports_laid, refs_below, layer_fields, layer_good, kind_lists, entries_named, interface_fields, interface_good, stage_named, stage_lists, stage_fields, stage_good, step_has, step_named, step_good}
 use Rattle.rules.proofs.Fits.{laid_next, stage_ports_fit}
 use Rattle.records.proofs.Guards.{left_true, right_true}
 
-pub judged_no : (g : Bool) (n : Running) (b : Bool) → b ≡ g → not b ≡ true → Fault ≡ cond g (Next n) Fault
-judged_no g n b e h = sym (ap (λ (x : Bool). cond x (Next n) Fault) (sym e ∙ not-true b h))
+pub judged_no : (g : Bool) (n : Running) (b : Bool) → b ≡ g → not b ≡ true → None ≡ cond g (Some n) None
+judged_no g n b e h = sym (ap (λ (x : Bool). cond x (Some n) None) (sym e ∙ not-true b h))
 
-pub judged_next : (g : Bool) (n : Running) (b : Bool) → b ≡ g → not b ≡ false → Next n ≡ cond g (Next n) Fault
-judged_next g n b e h = sym (ap (λ (x : Bool). cond x (Next n) Fault) (sym e ∙ not-false b h))
+pub judged_next : (g : Bool) (n : Running) (b : Bool) → b ≡ g → not b ≡ false → Some n ≡ cond g (Some n) None
+judged_next g n b e h = sym (ap (λ (x : Bool). cond x (Some n) None) (sym e ∙ not-false b h))
 
 module _ (s : List ℕ) (c : Counts) (r : Running) where
   pub layer-next : (l : LayerRecord) → layer_good s c r l ≡ true → r.refs + l.stages.count ≤ c.refs

@@ -1,53 +1,39 @@
 // The records in file order, up to the first that breaks its rule.
 ghost use Rattle.std.specs.Prelude.{◌≡◌};
 ghost use Rattle.judging.specs.Judge.{walk_section, walk_all};
-ghost use Rattle.records.specs.Layout.{refs_at, sections, Sized};
+ghost use Rattle.records.specs.Layout.{sections};
 
-use crate::judge::judge;
-use records::layout::{Counts, Section};
-use records::running::{Judged, Running, Walked};
+use crate::judge::Judge;
+use records::Records;
+use records::record::{
+    InterfaceRecord, LayerRecord, LocalRecord, PortRecord, StageRecord, StepRecord, TypeRecord,
+};
+use records::running::{Fault, Running};
 
-fn walk_section(s: &[u8], c: Counts, at: usize, x: Section, from: Running) -> Walked
-    requires at_value { at ≡ refs_at c }
-    requires sized { Sized s.now c }
-    ensures { result ≡ walk_section s.now c x from }
+// The records of one section.
+fn walk_section<R: Judge>(records: &Records, from: Running) -> Result<Running, Fault>
+    ensures { result ≡ walk_section records.now.bytes.now records.now.counts R.SECTION from }
 {
-    let size = x.size();
-    let mut left = x.count(c);
-    let mut p = x.start(c);
     let mut r = from;
-    while left != 0 {
-        match judge(x, s, c, at, p, r) {
-            Judged::Fault => return Walked::At(p as u32),
-            Judged::Next(next) => {
-                r = next;
-            }
-        }
-        p += size;
-        left -= 1;
+    for k in 0..R::SECTION.count(records.counts) {
+        let record: R = records.nth(k);
+        r = record
+            .judge(records, r)
+            .ok_or(Fault(records.place::<R>(k) as u32))?;
     }
-    Walked::Clean(r)
+    Ok(r)
 }
 
-pub fn walk(s: &[u8], c: Counts) -> Walked
-    requires { Sized s.now c }
-    ensures { result ≡ walk_all s.now c sections (record { refs = 0; steps = 0; ports = 0 }) }
+#[tactic(auto, using(crate::proofs::Walks::onwards_ok), unfolding(crate::specs::Judge::walk_all))]
+pub fn walk(records: &Records) -> Result<Running, Fault>
+    ensures { result ≡ walk_all records.now.bytes.now records.now.counts sections (record { refs = 0; steps = 0; ports = 0 }) }
 {
-    let at = c.refs_at();
-    let mut k = 0;
-    let mut r = Running {
-        refs: 0,
-        steps: 0,
-        ports: 0,
-    };
-    while k < 7 {
-        match walk_section(s, c, at, Section::nth(k), r) {
-            Walked::At(p) => return Walked::At(p),
-            Walked::Clean(next) => {
-                r = next;
-            }
-        }
-        k += 1;
-    }
-    Walked::Clean(r)
+    let layers = walk_section::<LayerRecord>(records, Running::default())?;
+    let interfaces = walk_section::<InterfaceRecord>(records, layers)?;
+    let stages = walk_section::<StageRecord>(records, interfaces)?;
+    let locals = walk_section::<LocalRecord>(records, stages)?;
+    let types = walk_section::<TypeRecord>(records, locals)?;
+    let steps = walk_section::<StepRecord>(records, types)?;
+    let ports = walk_section::<PortRecord>(records, steps)?;
+    Ok(ports)
 }

@@ -1,108 +1,55 @@
--- Two searches: a number in a list that is read one by one, and a stage that declares a local. What is ahead answers as the whole does.
-use mathlib.Core.Path.{◌≡◌, ◌∙◌, refl, sym, ap, ap₂}
-use mathlib.Core.Bool.{Bool, true, false, not, ◌&&◌, ◌||◌}
+-- Two searches that are told by `any`: a number in a list of an image, and a stage that declares a local.
+use mathlib.Core.Path.{◌≡◌, ◌∙◌, refl, sym, ap}
+use mathlib.Core.Bool.{Bool, ◌||◌}
 use mathlib.Core.List.{List}
-use Prim.Native.Nat.{ℕ, zero, suc, ◌+◌, ◌-◌, ◌<◌, ◌≤◌}
+use Prim.Native.Nat.{ℕ, zero, suc, ◌+◌}
 use native.Mathlib.Numerals.{add-one}
 use native.Mathlib.Omega.{arith}
-use borrow.Author.Tests.{eq-eqb, ne_eqb}
 use lib.Dec.{eqb}
 use lib.ListN.{length, get_or, take, drop, drop_of_length-le}
 use lib.Seq.{drop-cons, get_or-take}
+use Rattle.std.specs.List.{list_any, range_with_len}
 use Rattle.records.specs.declared.layout.Counts.{Counts}
 use Rattle.records.specs.declared.record.StageRecord.{StageRecord}
-use Rattle.image.specs.View.{collect, refs_from, view}
+use Rattle.image.specs.View.{collect, view}
 use Rattle.image.specs.Vir.{Stage, Vir, stage_of}
-use Rattle.reading.specs.Read.{StageRead}
+use Rattle.reading.specs.Read.{StageRead, ref_nth}
+use Rattle.reading.specs.Image.{Image}
+use Rattle.reading.proofs.Reading.{stages-many}
 use Rattle.analyzer.specs.Analyze.{declared}
 use Rattle.analyzer.specs.Fill.{contains}
 use Rattle.locals.specs.Declared.{declared_in}
 
--- ---- a number among the values of f from `first` on
+-- a number among n values of f, from the k-th on
+contains_any : (f : ℕ → ℕ) (x k n : ℕ) → list_any (λ j. eqb (f j) x) (range_with_len k n) ≡ contains (collect f k n) x
+unfolding contains collect
+contains_any f x k zero = refl
+contains_any f x k (suc n) =
+    ap (λ b. eqb (f k) x || b) (ap (λ (i : ℕ). list_any (λ j. eqb (f j) x) (range_with_len i n)) (add-one k) ∙ contains_any f x (suc k) n)
 
-pub record Searching (f : ℕ → ℕ) (n first count k left : ℕ) : Type 0 where
-  pub ends : k + left ≡ first + count
-  pub ahead : contains (collect f k left) n ≡ contains (collect f first count) n
-
-pub searching_start : {f : ℕ → ℕ} {n first count : ℕ} → Searching f n first count first count
-searching_start = record { ends = refl; ahead = refl }
-
-module _ {f : ℕ → ℕ} {n first count k left : ℕ} (w : Searching f n first count k left) where
-  next : (left ≡ 0 → ⊥) → contains (collect f first count) n ≡ (eqb (f k) n || contains (collect f (k + 1) (left - 1)) n)
-  unfolding contains collect
-  next h = sym w.ahead ∙ go left h
-    where
-      go : (m : ℕ) → (m ≡ 0 → ⊥) → contains (collect f k m) n ≡ (eqb (f k) n || contains (collect f (k + 1) (m - 1)) n)
-      go zero z = absurd (z refl)
-      go (suc m) z = ap₂ (λ (i j : ℕ). eqb (f k) n || contains (collect f i j) n) (sym (add-one k)) less
-        where
-          less : m ≡ suc m - 1
-          less = omega arith
-
-  pub searching_found : {x : ℕ} → x ≡ f k → (left ≡ 0 → ⊥) → x ≡ n → true ≡ contains (collect f first count) n
-  searching_found p h e = sym (next h ∙ ap (λ b. b || contains (collect f (k + 1) (left - 1)) n) (eq-eqb (f k) n (sym p ∙ e)))
-
-  pub searching_on : {x : ℕ} → x ≡ f k → (left ≡ 0 → ⊥) → (x ≡ n → ⊥) → Searching f n first count (k + 1) (left - 1)
-  searching_on p h e =
-      record {
-        ends = omega (arith, w.ends);
-        ahead = sym (next h ∙ ap (λ b. b || contains (collect f (k + 1) (left - 1)) n) (ne_eqb (f k) n (λ q. e (p ∙ q))));
-      }
-
-  pub searching_end : left ≡ 0 → false ≡ contains (collect f first count) n
-  unfolding contains collect
-  searching_end h = sym (ap (λ (m : ℕ). contains (collect f k m) n) h) ∙ w.ahead
+-- a stage among those of an image
+declared_any : (incoming : List ℕ) (l : ℕ) (v : Vir) (k n : ℕ) → k + n ≡ length v.stages
+    → list_any (λ t. declared_in incoming l (stage_of v t)) (range_with_len k n) ≡ declared incoming l (drop k v.stages)
+unfolding declared
+declared_any incoming l v k zero e = sym (ap (declared incoming l) (drop_of_length-le v.stages (omega arith)))
+declared_any incoming l v k (suc n) e =
+    ap (λ b. declared_in incoming l (stage_of v k) || b)
+    (ap (λ (i : ℕ). list_any (λ t. declared_in incoming l (stage_of v t)) (range_with_len i n)) (add-one k) ∙ declared_any incoming l v (suc k) n (omega arith))
+    ∙ sym (ap (declared incoming l) (drop-cons v.stages k _ (omega arith)))
 
 -- what a stage declares, as it was read
 module _ {s : List ℕ} {c : Counts} {t : ℕ} {r : StageRecord} (l : ℕ) (read : StageRead s c t r) where
-  pub declared_as : {b : Bool} → b ≡ contains (refs_from s c r.declarations) l → b ≡ contains (stage_of (view s) t).declarations l
-  declared_as p = p ∙ sym (ap (λ (t : Stage). contains t.declarations l) read.value)
+  pub declared_as : {b : Bool} → b ≡ list_any (λ k. eqb (ref_nth s c k) l) (range_with_len r.declarations.first r.declarations.count)
+      → b ≡ contains (stage_of (view s) t).declarations l
+  declared_as p =
+      p ∙ contains_any (ref_nth s c) l r.declarations.first r.declarations.count ∙ sym (ap (λ (t : Stage). contains t.declarations l) read.value)
 
   -- .. and whether its interface is come to
-  module _ (incoming : List ℕ) where
-    counted : get_or (take c.interfaces incoming) (stage_of (view s) t).interface 0 ≡ get_or incoming r.interface.0 0
-    counted =
-        ap (λ (t : Stage). get_or (take c.interfaces incoming) t.interface 0) read.value
-        ∙ get_or-take c.interfaces incoming r.interface.0 0 read.facts.interface
+  pub counted : (incoming : List ℕ) → get_or (take c.interfaces incoming) (stage_of (view s) t).interface 0 ≡ get_or incoming r.interface.0 0
+  counted incoming =
+      ap (λ (t : Stage). get_or (take c.interfaces incoming) t.interface 0) read.value
+      ∙ get_or-take c.interfaces incoming r.interface.0 0 read.facts.interface
 
-    by : (b : Bool) → eqb (get_or incoming r.interface.0 0) 0 ≡ b
-        → declared_in (take c.interfaces incoming) l (stage_of (view s) t) ≡ (not b && contains (stage_of (view s) t).declarations l)
-    by b e = ap (λ (b : Bool). not b && contains (stage_of (view s) t).declarations l) (ap (λ (k : ℕ). eqb k 0) counted ∙ e)
-
-    pub not_come_to : get_or incoming r.interface.0 0 ≡ 0 → false ≡ declared_in (take c.interfaces incoming) l (stage_of (view s) t)
-    not_come_to e = sym (by true (eq-eqb _ 0 e))
-
-    pub come_to : {b : Bool} → (get_or incoming r.interface.0 0 ≡ 0 → ⊥) → b ≡ contains (stage_of (view s) t).declarations l
-        → b ≡ declared_in (take c.interfaces incoming) l (stage_of (view s) t)
-    come_to e p = p ∙ sym (by false (ne_eqb _ 0 e))
-
--- ---- a stage among those of an image
-
-pub record Seeking (incoming : List ℕ) (l : ℕ) (v : Vir) (t : ℕ) : Type 0 where
-  pub reached : t ≤ length v.stages
-  pub ahead : declared incoming l (drop t v.stages) ≡ declared incoming l v.stages
-
-pub seeking_start : {incoming : List ℕ} {l : ℕ} {v : Vir} → Seeking incoming l v 0
-seeking_start = record { reached = omega arith; ahead = refl }
-
-module _ {incoming : List ℕ} {l : ℕ} {v : Vir} {t : ℕ} (w : Seeking incoming l v t) where
-  onward : t < length v.stages → declared incoming l v.stages ≡ (declared_in incoming l (stage_of v t) || declared incoming l (drop (t + 1) v.stages))
-  unfolding declared
-  onward h =
-      sym w.ahead
-      ∙ ap (declared incoming l) (drop-cons v.stages t _ h)
-      ∙ ap (λ (k : ℕ). declared_in incoming l (stage_of v t) || declared incoming l (drop k v.stages)) (sym (add-one t))
-
-  module _ {b : Bool} (p : b ≡ declared_in incoming l (stage_of v t)) (h : t < length v.stages) where
-    answered : (q : Bool) → b ≡ q → declared incoming l v.stages ≡ (q || declared incoming l (drop (t + 1) v.stages))
-    answered q e = onward h ∙ ap (λ q. q || declared incoming l (drop (t + 1) v.stages)) (sym p ∙ e)
-
-    pub seeking_found : b ≡ true → true ≡ declared incoming l v.stages
-    seeking_found e = sym (answered true e)
-
-    pub seeking_on : b ≡ false → Seeking incoming l v (t + 1)
-    seeking_on e = record { reached = omega arith; ahead = sym (answered false e) }
-
-  pub seeking_end : length v.stages ≤ t → false ≡ declared incoming l v.stages
-  unfolding declared
-  seeking_end h = sym (ap (declared incoming l) (drop_of_length-le v.stages h)) ∙ w.ahead
+pub declared_of : {s : List ℕ} {c : Counts} (m : Image s c) (incoming : List ℕ) (l : ℕ) {b : Bool}
+    → b ≡ list_any (λ t. declared_in incoming l (stage_of (view s) t)) (range_with_len 0 c.stages) → b ≡ declared incoming l (view s).stages
+declared_of {s} {c} m incoming l p = p ∙ declared_any incoming l (view s) 0 c.stages (omega (arith, stages-many m))

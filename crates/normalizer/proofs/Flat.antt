@@ -8,7 +8,7 @@ use lib.Dec.{eqb, ltb}
 use lib.ListN.{length, get_or, get_or-append, get_or-map, get_or-eq_default}
 use lib.Seq.{get_or-append-add}
 use borrow.Author.Tests.{eqb-true, eqb-false, eq-eqb, ne_eqb, ltb-true, ltb-false, lt-ltb}
-use Rattle.effect.proofs.Finite.{get_or_any}
+use Rattle.std.proofs.lemmas.List.{get_or_default}
 use Rattle.vir.specs.declared.interface.InterfaceKind.TheVariants.{Inspect}
 use Rattle.vir.specs.Ids.{none}
 use Rattle.records.specs.Layout.{within}
@@ -79,7 +79,7 @@ module _ (v : Vir) (y : Layered v) where
     unfolding normalize
     good_stage t h =
         subst (Good v (counts_of_vir w) t)
-        (sym (get_or_any w.stages t _ (unwrap []) h ∙ get_or-map unwrap (normalizer_of v).stages t []))
+        (sym (get_or_default w.stages t _ (unwrap []) h ∙ get_or-map unwrap (normalizer_of v).stages t []))
         (good_at v y once t (omega (arith, h, stages-length v)))
 
     grown : length v.stages ≤ length w.stages

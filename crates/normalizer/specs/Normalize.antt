@@ -1,12 +1,10 @@
 -- normalizer.rs: `normalize_layer` and `normalize`.
-use Rattle.std.specs.Prelude.{true, false, List, [], ◌∷◌, ◌++◌, map, ℕ, zero, suc, eqb, leb, length, get_or, set, replicate}
+use Rattle.std.specs.Prelude.{true, false, List, [], ◌∷◌, ◌++◌, map, ℕ, zero, suc, eqb, leb, length, get_or, set, replicate, None, Option, Some}
 use Rattle.vir.specs.declared.header.Header.TheVariants.{Bare}
 use Rattle.vir.specs.declared.interface.InterfaceKind.TheVariants.{Unconditional}
 use Rattle.vir.specs.declared.invocation.Invocation.{Invocation}
 use Rattle.vir.specs.declared.invocation.Invocation.TheVariants.{ReadBarrier, BarrierWrite}
 use Rattle.vir.specs.declared.port.PortKind.TheVariants.{Wire}
-use Rattle.vir.specs.declared.step.Onward.{Onward}
-use Rattle.vir.specs.declared.step.Onward.TheVariants.{To, Nowhere}
 use Rattle.vir.specs.declared.step.Step.{Step}
 use Rattle.vir.specs.declared.step.Step.TheVariants.{Invoke, Transfer, Diverge, Link, Call, Const, Composite, Rewrap, Enum, Union, Ref, List as Listing, String, InlineIvy, BoolNot, BoolAnd}
 use Rattle.vir.specs.Ids.{none, is_inverse, idx, inverse}
@@ -15,6 +13,7 @@ use Rattle.image.specs.Loops.{each}
 use Rattle.image.specs.Vir.{Action, Flex, Interface, Layer, Local, Port, Stage, Vir, layer_of, stage_of}
 use Rattle.normalizer.specs.Divergence.{step_divergence, layer_divergence, sub_layer}
 use Rattle.normalizer.specs.OpenWires.{Open, update_open_wires}
+use Rattle.vir.specs.declared.ids.InterfaceId.{InterfaceId}
 
 -- what the Rust's `Normalizer` changes. A stage's `Option` is the list of the stages put there, so that "set exactly once" can be said;
 -- a final transfer has no data port, so it is its interface or none
@@ -172,9 +171,9 @@ transfer_step interface ports =
     ]
 
 -- a Diverge's own transfer with its data port, or else its target's final one as then known
-abbrev pub onward : Onward → ℕ → List Port → Normalizer → List Action
-onward (To i) target ports n = transfer_step i.0 ports
-onward Nowhere target ports n = transfer_step (final_of target n) []
+abbrev pub onward : Option InterfaceId → ℕ → List Port → Normalizer → List Action
+onward (Some i) target ports n = transfer_step i.0 ports
+onward None target ports n = transfer_step (final_of target n) []
 
 -- what `match step` leaves of a step at which the stage is split: the normalizer, and what the old stage gets
 pub record Jumped : Type 0 where

@@ -1,12 +1,15 @@
 -- Laws of a test at every number below another: what a loop that tests them one by one needs.
 use mathlib.Core.Path.{◌≡◌, ◌∙◌, refl, sym, ap, ap₂, subst}
-use mathlib.Core.Bool.{Bool, true, false, ◌&&◌, and-false, true≢false}
+use mathlib.Core.Bool.{Bool, true, false, ◌&&◌, and-true, and-false, true≢false}
+use mathlib.Core.List.{List, [], ◌∷◌, ◌++◌}
 use Prim.Native.Nat.{ℕ, zero, suc, ◌+◌, ◌<◌, ◌≤◌}
-use native.Mathlib.Nat.{not-suc-le-zero}
+use native.Mathlib.Nat.{not-suc-le-zero, add-zero, zero-add}
 use native.Mathlib.Numerals.{add-one}
 use native.Mathlib.Omega.{arith}
 use lib.Dec.{eqb}
 use borrow.Author.Tests.{eqb-true, eqb-false}
+use Rattle.std.specs.List.{list_all, range_with_len}
+use Rattle.std.proofs.lemmas.List.Folds.{list_all-append}
 use Rattle.records.specs.Every.{every}
 
 pub every-zero : (f : ℕ → Bool) → every 0 f ≡ true
@@ -58,3 +61,19 @@ every_cong f g (suc n) h = ap₂ ◌&&◌ (every_cong f g n (λ k l. h k (omega 
 pub every-next : (f : ℕ → Bool) (i : ℕ) {ok ok' : Bool} → ok ≡ every i f → ok' ≡ (ok && f i) → ok' ≡ every (i + 1) f
 unfolding every
 every-next f i h t = t ∙ ap (λ (b : Bool). b && f i) h ∙ sym (ap (λ (n : ℕ). every n f) (add-one i))
+
+-- a range ends in its last number
+range_last : (a n : ℕ) → range_with_len a (suc n) ≡ range_with_len a n ++ ((a + n) ∷ [])
+range_last a zero = ap (λ (k : ℕ). k ∷ []) (sym (add-zero a))
+range_last a (suc n) =
+    let last : (a + 1) + n ≡ a + suc n = omega arith in
+    ap (λ (l : List ℕ). a ∷ l) (range_last (a + 1) n ∙ ap (λ (k : ℕ). range_with_len (a + 1) n ++ (k ∷ [])) last)
+
+-- what `all` of a range asks
+pub every_range : (f : ℕ → Bool) (n : ℕ) → list_all f (range_with_len 0 n) ≡ every n f
+unfolding every
+every_range f zero = refl
+every_range f (suc n) =
+    ap (list_all f) (range_last 0 n)
+    ∙ list_all-append f (range_with_len 0 n) ((0 + n) ∷ [])
+    ∙ ap₂ ◌&&◌ (every_range f n) (and-true (f (0 + n)) ∙ ap f (zero-add n))

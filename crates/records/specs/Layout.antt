@@ -133,3 +133,7 @@ start_of c Locals = locals_at c
 start_of c Types = types_at c
 start_of c Steps = steps_at c
 start_of c Ports = ports_at c
+
+-- where record k of a section stands
+abbrev pub place_of : Counts → Section → ℕ → ℕ
+place_of c x k = start_of c x + size_of x * k

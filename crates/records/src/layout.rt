@@ -1,6 +1,6 @@
 // Where everything lies: the eight counts, their maxima, each section's start, and the size of its records.
-ghost use Rattle.std.specs.Prelude.{◌≡◌, ◌≤◌, length, get_or};
-ghost use Rattle.records.specs.Layout.{counts_of, interfaces_at, stages_at, locals_at, types_at, steps_at, ports_at, refs_at, length_of, within, sections, size_of, count_of, start_of};
+ghost use Rattle.std.specs.Prelude.{◌≡◌, ◌≤◌, length};
+ghost use Rattle.records.specs.Layout.{counts_of, interfaces_at, stages_at, locals_at, types_at, steps_at, ports_at, refs_at, length_of, within, size_of, count_of, start_of};
 
 use crate::bytes::u16_at;
 
@@ -25,7 +25,7 @@ pub const PORT: usize = 9;
 
 pub const REF: usize = 2;
 
-#[derive(Clone, Copy)]
+#[derive(Clone, Copy, Debug, PartialEq, Eq)]
 pub struct Counts {
     pub layers: u16,
     pub interfaces: u16,
@@ -38,7 +38,7 @@ pub struct Counts {
 }
 
 // The sections whose entries are judged one by one, in the order of the file. Refs follow.
-#[derive(Clone, Copy)]
+#[derive(Clone, Copy, Debug, PartialEq, Eq)]
 pub enum Section {
     Layers,
     Interfaces,
@@ -131,6 +131,17 @@ impl Counts {
 }
 
 impl Section {
+    // In the order of the file.
+    pub const ALL: [Section; 7] = [
+        Section::Layers,
+        Section::Interfaces,
+        Section::Stages,
+        Section::Locals,
+        Section::Types,
+        Section::Steps,
+        Section::Ports,
+    ];
+
     pub fn size(self) -> usize
         ensures { result ≡ size_of self }
     {
@@ -148,15 +159,16 @@ impl Section {
     pub fn count(self, c: Counts) -> usize
         ensures { result ≡ count_of c self }
     {
-        match self {
-            Section::Layers => c.layers as usize,
-            Section::Interfaces => c.interfaces as usize,
-            Section::Stages => c.stages as usize,
-            Section::Locals => c.locals as usize,
-            Section::Types => c.types as usize,
-            Section::Steps => c.steps as usize,
-            Section::Ports => c.ports as usize,
-        }
+        let count = match self {
+            Section::Layers => c.layers,
+            Section::Interfaces => c.interfaces,
+            Section::Stages => c.stages,
+            Section::Locals => c.locals,
+            Section::Types => c.types,
+            Section::Steps => c.steps,
+            Section::Ports => c.ports,
+        };
+        count as usize
     }
 
     pub fn start(self, c: Counts) -> usize
@@ -170,21 +182,6 @@ impl Section {
             Section::Types => c.types_at(),
             Section::Steps => c.steps_at(),
             Section::Ports => c.ports_at(),
-        }
-    }
-
-    pub fn nth(k: usize) -> Section
-        ensures { result ≡ get_or sections k Section.Ports }
-    {
-        match k {
-            0 => Section::Layers,
-            1 => Section::Interfaces,
-            2 => Section::Stages,
-            3 => Section::Locals,
-            4 => Section::Types,
-            5 => Section::Steps,
-            6 => Section::Ports,
-            _ => Section::Ports,
         }
     }
 }

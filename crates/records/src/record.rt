@@ -1,8 +1,13 @@
-// The records at a place, as values. A list is where it starts in its section, and how long it is.
-ghost use Rattle.std.specs.Prelude.{◌≡◌, ◌+◌, ◌≤◌, length};
+// The records at a place, as values. A list is where it starts in its section, and how long it is. Kinds, headers and tags are the numbers that
+// stand there: which case each is, if any, is for the rules to ask.
+ghost use Rattle.std.specs.Prelude.{◌≡◌, List, ℕ, ◌+◌, ◌≤◌, length};
+ghost use Rattle.records.specs.declared.layout.Section.{Section};
+ghost use Rattle.records.specs.declared.layout.Section.TheVariants.{Layers, Interfaces, Stages, Locals, Types, Steps, Ports};
+ghost use Rattle.records.specs.Layout.{size_of};
 ghost use Rattle.records.specs.Records.{run_at, layer_at, interface_at, stage_at, local_at, type_at, step_at, port_at};
 
 use crate::bytes::{u16_at, u32_at};
+use crate::layout::Section;
 use vir::ids::{InterfaceId, LayerId, Span, Type};
 
 #[derive(Clone, Copy)]
@@ -70,6 +75,19 @@ pub struct PortRecord {
     pub b: u16,
 }
 
+// A record of a section, as it stands at a place.
+pub trait Record {
+    ghost SECTION: { Section };
+
+    ghost at: { List ℕ → ℕ → Self };
+
+    const SECTION: Section;
+
+    fn read(s: &[u8], p: usize) -> Self
+        requires { p + size_of SECTION ≤ length s.now }
+        ensures { result ≡ at s.now p };
+}
+
 impl Run {
     pub fn read(s: &[u8], p: usize) -> Run
         requires { p + 4 ≤ length s.now }
@@ -80,13 +98,29 @@ impl Run {
             count: u16_at(s, p + 2),
         }
     }
+
+    // The number of its first entry, and of the one behind its last.
+    pub fn start(self) -> usize
+        ensures { result ≡ self.first }
+    {
+        self.first as usize
+    }
+
+    pub fn end(self) -> usize
+        ensures { result ≡ self.first + self.count }
+    {
+        self.first as usize + self.count as usize
+    }
 }
 
-impl LayerRecord {
-    pub fn read(s: &[u8], p: usize) -> LayerRecord
-        requires { p + 6 ≤ length s.now }
-        ensures { result ≡ layer_at s.now p }
-    {
+impl Record for LayerRecord {
+    ghost SECTION = { Layers };
+
+    ghost at = { layer_at };
+
+    const SECTION: Section = Section::Layers;
+
+    fn read(s: &[u8], p: usize) -> LayerRecord {
         LayerRecord {
             parent: LayerId(u16_at(s, p)),
             stages: Run::read(s, p + 2),
@@ -94,11 +128,14 @@ impl LayerRecord {
     }
 }
 
-impl InterfaceRecord {
-    pub fn read(s: &[u8], p: usize) -> InterfaceRecord
-        requires { p + 9 ≤ length s.now }
-        ensures { result ≡ interface_at s.now p }
-    {
+impl Record for InterfaceRecord {
+    ghost SECTION = { Interfaces };
+
+    ghost at = { interface_at };
+
+    const SECTION: Section = Section::Interfaces;
+
+    fn read(s: &[u8], p: usize) -> InterfaceRecord {
         InterfaceRecord {
             layer: LayerId(u16_at(s, p)),
             kind: s[p + 2],
@@ -108,11 +145,14 @@ impl InterfaceRecord {
     }
 }
 
-impl StageRecord {
-    pub fn read(s: &[u8], p: usize) -> StageRecord
-        requires { p + 30 ≤ length s.now }
-        ensures { result ≡ stage_at s.now p }
-    {
+impl Record for StageRecord {
+    ghost SECTION = { Stages };
+
+    ghost at = { stage_at };
+
+    const SECTION: Section = Section::Stages;
+
+    fn read(s: &[u8], p: usize) -> StageRecord {
         StageRecord {
             span: Span(u32_at(s, p)),
             interface: InterfaceId(u16_at(s, p + 4)),
@@ -129,11 +169,14 @@ impl StageRecord {
     }
 }
 
-impl LocalRecord {
-    pub fn read(s: &[u8], p: usize) -> LocalRecord
-        requires { p + 7 ≤ length s.now }
-        ensures { result ≡ local_at s.now p }
-    {
+impl Record for LocalRecord {
+    ghost SECTION = { Locals };
+
+    ghost at = { local_at };
+
+    const SECTION: Section = Section::Locals;
+
+    fn read(s: &[u8], p: usize) -> LocalRecord {
         LocalRecord {
             span: Span(u32_at(s, p)),
             ty: Type(u16_at(s, p + 4)),
@@ -142,11 +185,14 @@ impl LocalRecord {
     }
 }
 
-impl TypeRecord {
-    pub fn read(s: &[u8], p: usize) -> TypeRecord
-        requires { p + 2 ≤ length s.now }
-        ensures { result ≡ type_at s.now p }
-    {
+impl Record for TypeRecord {
+    ghost SECTION = { Types };
+
+    ghost at = { type_at };
+
+    const SECTION: Section = Section::Types;
+
+    fn read(s: &[u8], p: usize) -> TypeRecord {
         TypeRecord {
             upright: s[p],
             inverted: s[p + 1],
@@ -154,11 +200,14 @@ impl TypeRecord {
     }
 }
 
-impl StepRecord {
-    pub fn read(s: &[u8], p: usize) -> StepRecord
-        requires { p + 11 ≤ length s.now }
-        ensures { result ≡ step_at s.now p }
-    {
+impl Record for StepRecord {
+    ghost SECTION = { Steps };
+
+    ghost at = { step_at };
+
+    const SECTION: Section = Section::Steps;
+
+    fn read(s: &[u8], p: usize) -> StepRecord {
         StepRecord {
             tag: s[p],
             a: u32_at(s, p + 1),
@@ -168,11 +217,14 @@ impl StepRecord {
     }
 }
 
-impl PortRecord {
-    pub fn read(s: &[u8], p: usize) -> PortRecord
-        requires { p + 9 ≤ length s.now }
-        ensures { result ≡ port_at s.now p }
-    {
+impl Record for PortRecord {
+    ghost SECTION = { Ports };
+
+    ghost at = { port_at };
+
+    const SECTION: Section = Section::Ports;
+
+    fn read(s: &[u8], p: usize) -> PortRecord {
         PortRecord {
             ty: Type(u16_at(s, p)),
             kind: s[p + 2],

@@ -8,7 +8,7 @@ use native.Mathlib.Omega.{arith}
 use lib.Dec.{eqb}
 use lib.ListN.{length, get_or, take, length-append, length-take}
 use lib.Seq.{get_or-take}
-use Rattle.effect.proofs.Finite.{get_or_any}
+use Rattle.std.proofs.lemmas.List.{get_or_default}
 use Rattle.records.specs.Bytes.{u8_at, u16_at, u32_at}
 use Rattle.image.specs.Encode.{u32_bytes}
 use Rattle.image.specs.Kind.{concat}
@@ -125,7 +125,7 @@ module _ (r : Report) where
     pub rows_even : Even row_bytes (row_size r.locals) r.wires
     rows_even d k h =
         row-length (get_or r.wires k d)
-        ∙ ap (λ (ws : List Wire). row_size (length ws)) (get_or_any r.wires k d [] h)
+        ∙ ap (λ (ws : List Wire). row_size (length ws)) (get_or_default r.wires k d [] h)
         ∙ ap row_size (shaped.wires k h)
 
     pub to_diags : length (head_bytes r ++ incoming_part ++ rows_part) ≡ row_at interfaces r.locals interfaces

@@ -1,21 +1,21 @@
 -- A wire more in a row: a byte more, or the other half of the last; and that for each row of a grid.
-use mathlib.Core.Path.{◌≡◌, ◌∙◌, refl, sym, ap, subst}
+use mathlib.Core.Path.{◌≡◌, ◌∙◌, refl, sym, ap}
 use mathlib.Core.Bool.{Bool, true, false}
 use mathlib.Core.List.{List, [], ◌∷◌, ◌++◌}
 use Prim.Native.Nat.{ℕ, zero, suc, ◌+◌, ◌*◌, ◌/◌, ◌%◌, ◌≤◌, ◌<◌}
-use native.Mathlib.Nat.{mul-suc, mul-le-mul_left, not-suc-le-zero}
+use native.Mathlib.Nat.{mul-suc, mul-le-mul_left}
 use native.Mathlib.Omega.{arith}
 use borrow.Author.Tests.{ltb-true, ltb-false}
 use lib.Dec.{ltb}
-use lib.ListN.{length, get_or, set, length-append}
-use lib.Seq.{get_or-set_same, get_or-set_other}
+use lib.ListN.{length, get_or, set, take, length-append}
+use lib.Seq.{get_or-set_same, get_or-set_other, get_or-take}
 use Rattle.records.specs.Bytes.{u8_at}
 use Rattle.image.specs.Stands.{Stands}
 use Rattle.report.specs.Report.{Wire, half, row_bytes}
 use Rattle.report.specs.Writing.{Column}
 use Rattle.report.specs.Promises.{Halved}
 use Rattle.report.proofs.Fields.{row-length}
-use Rattle.report.proofs.Laying.{between_same, between_then, between_wider, between_set, stands-low, stands-high}
+use Rattle.report.proofs.Laying.{between_then, between_wider, between_set, stands-low, stands-high}
 use Rattle.report.proofs.Written.{half-low}
 
 -- ---- a row
@@ -103,9 +103,6 @@ halved_odd s p l h fits odd =
 pub row_fits : (size i rows : ℕ) → i < rows → size * i + size ≤ size * rows
 row_fits size i rows h = omega (arith, mul-suc size i, mul-le-mul_left size h)
 
-pub column_start : {at size l : ℕ} {halves s : List ℕ} → Column at size 0 l halves s s
-column_start = record { kept = between_same; row = λ i h. absurd (not-suc-le-zero h) }
-
 pub column_on : {at size i l : ℕ} {halves a b c : List ℕ} → Column at size i l halves a b → Halved (at + size * i) l (get_or halves i 0) b c → l < 2 * size
     → Column at size (i + 1) l halves a c
 column_on {at} {size} {i} {l} {halves} {a} {b} {c} x y h =
@@ -126,7 +123,7 @@ column_on {at} {size} {i} {l} {halves} {a} {b} {c} x y h =
         let same : j ≡ i = omega (arith, ltb-false j i q, k) in
         rw same (y.wire ws w n (e ∙ ap (λ (m : ℕ). get_or halves m 0) same) (stands-high x.kept (omega arith) (rw same at z)))
 
-pub column_end : {at size i rows l : ℕ} {halves a b : List ℕ} → Column at size i l halves a b → i ≤ rows → rows ≤ i → Column at size rows l halves a b
-column_end {at} {size} {i} {rows} {l} {halves} {a} {b} x h k =
-    let e : i ≡ rows = omega arith in
-    subst (λ (n : ℕ). Column at size n l halves a b) e x
+-- of more halves than rows the first ones are written
+pub column_taken : {at size rows l : ℕ} (halves : List ℕ) {a b : List ℕ} → Column at size rows l (take rows halves) a b → Column at size rows l halves a b
+column_taken {rows = rows} halves x =
+    record { kept = x.kept; row = λ i h ws w n e. x.row i h ws w n (e ∙ sym (get_or-take rows halves i 0 h)) }

@@ -2,7 +2,7 @@
 use mathlib.Core.Path.{◌≡◌, ◌∙◌, refl, sym, ap, subst}
 use mathlib.Core.Bool.{Bool, cond}
 use mathlib.Core.List.{List, [], ◌∷◌, ◌++◌}
-use Prim.Native.Nat.{ℕ, ◌+◌, ◌*◌, ◌≤◌, ◌<◌, min}
+use Prim.Native.Nat.{ℕ, ◌+◌, ◌*◌, ◌<◌, min}
 use native.Mathlib.Numerals.{add-one}
 use native.Mathlib.Omega.{arith}
 use borrow.Author.Tests.{ne_eqb}
@@ -28,12 +28,6 @@ counts-on counts i {at} {a} {b} {c} x h y =
 pub counts_start : {at : ℕ} {s : List ℕ} → Laid at (concat u32_bytes []) s s
 unfolding concat
 counts_start = laid_none
-
-pub counts_end : (counts : List ℕ) {at i n : ℕ} {a b : List ℕ} → Laid at (concat u32_bytes (take i counts)) a b → i ≤ n → n ≤ i
-    → Laid at (concat u32_bytes (take n counts)) a b
-counts_end counts {at} {i} {n} {a} {b} x h k =
-    let e : i ≡ n = omega arith in
-    subst (λ (m : ℕ). Laid at (concat u32_bytes (take m counts)) a b) e x
 
 -- the head's bytes by its numbers
 abbrev pub head_of : ℕ → ℕ → ℕ → ℕ → ℕ → ℕ → ℕ → List ℕ

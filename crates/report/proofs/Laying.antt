@@ -1,17 +1,19 @@
 -- Bytes that are written at a place: one, some behind others, and what is written elsewhere leaves them.
-use mathlib.Core.Path.{◌≡◌, ◌∙◌, refl, sym, ap}
+use mathlib.Core.Path.{◌≡◌, ◌∙◌, refl, sym, ap, subst}
 use mathlib.Core.Bool.{Bool, true, false}
 use mathlib.Core.List.{List, [], ◌∷◌, ◌++◌, append-nil, append_assoc}
-use Prim.Native.Nat.{ℕ, ◌+◌, ◌-◌, ◌≤◌, ◌<◌}
+use Prim.Native.Nat.{ℕ, ◌+◌, ◌-◌, ◌/◌, ◌%◌, ◌≤◌, ◌<◌}
 use native.Mathlib.Omega.{arith}
 use borrow.Author.Tests.{ltb-true, ltb-false}
 use lib.Dec.{ltb}
 use lib.ListN.{length, get_or, set, length-append, length-set, get_or-append}
-use lib.Seq.{get_or-set_same, get_or-set_other, get_or-append-add}
+use lib.Seq.{get_or-set_other, get_or-append-add}
+use Rattle.std.specs.Int.{to_le_bytes, w16, w32}
 use Rattle.records.specs.Bytes.{u8_at}
+use Rattle.image.specs.Encode.{u16_bytes, u32_bytes}
 use Rattle.image.specs.Kind.{concat}
 use Rattle.image.specs.Stands.{Stands}
-use Rattle.image.proofs.Standing.{stands-next, stands-none}
+use Rattle.image.proofs.Standing.{stands-none}
 use Rattle.report.specs.Writing.{Between, Laid}
 
 -- ---- lists
@@ -68,8 +70,21 @@ stands-high {from} {to} {p} x h y = record { at = λ d k c. x.high (p + k) (omeg
 pub laid_none : {p : ℕ} {s : List ℕ} → Laid p [] s s
 laid_none = record { kept = between_same; stands = stands-none }
 
-pub laid_byte : (s : List ℕ) (p b : ℕ) → p < length s → Laid p (b ∷ []) s (set s p b)
-laid_byte s p b h = record { kept = between_set s p b; stands = stands-next (get_or-set_same s p b 0 h) stands-none }
+-- the same bytes in other words, and those that std's `to_le_bytes` gives
+pub laid_as : {p : ℕ} {xs ys a b : List ℕ} → xs ≡ ys → Laid p xs a b → Laid p ys a b
+laid_as {p} {a = a} {b = b} e x = subst (λ (l : List ℕ). Laid p l a b) e x
+
+pub laid_u16 : {p n : ℕ} {bytes a b : List ℕ} → bytes ≡ to_le_bytes w16 n → n < 65536 → Laid p bytes a b → Laid p (u16_bytes n) a b
+laid_u16 {n = n} e h x =
+    let high : n / 256 % 256 ≡ n / 256 = omega arith in
+    laid_as (e ∙ (λ i. n % 256 ∷ high i ∷ [])) x
+
+pub laid_u32 : {p n : ℕ} {bytes a b : List ℕ} → bytes ≡ to_le_bytes w32 n → n < 4294967296 → Laid p bytes a b → Laid p (u32_bytes n) a b
+laid_u32 {n = n} e h x =
+    let first : n % 256 ≡ n % 65536 % 256 = omega arith in
+    let second : n / 256 % 256 ≡ n % 65536 / 256 = omega arith in
+    let fourth : n / 16777216 % 256 ≡ n / 65536 / 256 = omega arith in
+    laid_as (e ∙ (λ i. first i ∷ second i ∷ n / 65536 % 256 ∷ fourth i ∷ [])) x
 
 pub laid_then : {p q : ℕ} (xs ys : List ℕ) {a b c : List ℕ} → Laid p xs a b → p + length xs ≡ q → Laid q ys b c → Laid p (xs ++ ys) a c
 laid_then {p} {q} xs ys x e y =

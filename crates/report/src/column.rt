@@ -1,5 +1,5 @@
 // The rows: a half byte for each interface and local, even local low. They are written a column at a time, as the locals come.
-ghost use Rattle.std.specs.Prelude.{ℕ, ◌+◌, ◌*◌, ◌/◌, ◌≤◌, ◌<◌, length, get_or};
+ghost use Rattle.std.specs.Prelude.{◌+◌, ◌*◌, ◌/◌, ◌≤◌, ◌<◌, length, All};
 ghost use Rattle.report.specs.Writing.{Column};
 ghost use Rattle.report.specs.Promises.{Halved};
 
@@ -12,23 +12,19 @@ fn put_half(out: &mut [u8], p: usize, l: usize, half: u8)
     let q = p + l / 2;
     if l % 2 == 0 {
         out[q] = half;
-        return;
+    } else {
+        out[q] = out[q] % 16 + 16 * half;
     }
-    let low = out[q] % 16;
-    out[q] = low + 16 * half;
 }
 
 // Local l in each of the rows, which are so many bytes long.
-pub fn column(out: &mut [u8], at: usize, size: usize, rows: usize, l: usize, halves: &[u8])
-    requires rows_in_bounds { rows ≤ length halves.now }
-    requires by_index { (i : ℕ) → i < rows → get_or halves.now i 0 < 16 }
-    requires rows_in_bounds_2 { at + size * rows ≤ length out.old }
+pub fn column(out: &mut [u8], at: usize, size: usize, l: usize, halves: &[u8])
+    requires halves_bound { All (λ h. h < 16) halves.now }
+    requires rows_in_bounds { at + size * length halves.now ≤ length out.old }
     requires l_bound { l < 2 * size }
-    ensures { Column at size rows l halves.now out.old out.new }
+    ensures { Column at size (length halves.now) l halves.now out.old out.new }
 {
-    let mut i: usize = 0;
-    while i < rows {
-        put_half(out, at + size * i, l, halves[i]);
-        i += 1;
+    for (i, &half) in halves.iter().enumerate() {
+        put_half(out, at + size * i, l, half);
     }
 }

@@ -1,59 +1,62 @@
-// The head, and behind it how often each interface is come to.
-ghost use Rattle.std.specs.Prelude.{◌≡◌, [], ◌∷◌, ◌++◌, ◌+◌, ◌*◌, ◌≤◌, min, length, take};
-ghost use Rattle.image.specs.Encode.{u16_bytes, u32_bytes};
+// The head, and before it how often each interface is come to.
+ghost use Rattle.std.specs.Prelude.{◌≡◌, ◌+◌, ◌*◌, ◌≤◌, min, length};
+ghost use Rattle.image.specs.Encode.{u32_bytes};
 ghost use Rattle.image.specs.Kind.{concat};
 ghost use Rattle.report.specs.Report.{most};
 ghost use Rattle.report.specs.Writing.{Laid};
 ghost use Rattle.report.specs.Promises.{verdict_of, Headed};
 
-use crate::bytes::{put_u8, put_u16, put_u32};
+use crate::bytes::put;
 use crate::diag::MOST;
 
-pub fn incoming(out: &mut [u8], at: usize, counts: &[u32], interfaces: usize)
-    requires interfaces_in_bounds { interfaces ≤ length counts.now }
-    requires interfaces_in_bounds_2 { at + 4 * interfaces ≤ length out.old }
-    ensures { Laid at (concat u32_bytes (take interfaces counts.now)) out.old out.new }
+const VERSION: u16 = 1;
+
+// How often each interface is come to.
+pub fn incoming(out: &mut [u8], at: usize, counts: &[u32])
+    requires { at + 4 * length counts.now ≤ length out.old }
+    ensures { Laid at (concat u32_bytes counts.now) out.old out.new }
 {
-    let mut i: usize = 0;
-    while i < interfaces {
-        put_u32(out, at + 4 * i, counts[i]);
-        i += 1;
+    for (i, &n) in counts.iter().enumerate() {
+        put(out, at + 4 * i, &n.to_le_bytes());
     }
 }
 
-fn verdict(total: u32) -> u8
-    ensures { result ≡ verdict_of total }
-{
-    if total == 0 { 0 } else { 1 }
+// A report's numbers. `total` counts all diagnostics, those that are not kept too.
+#[derive(Clone, Copy, Debug, PartialEq, Eq)]
+pub struct Head {
+    pub interfaces: u16,
+    pub locals: u16,
+    pub takes: u32,
+    pub evaluations: u32,
+    pub total: u32,
 }
 
-fn kept(total: u32) -> u16
-    ensures { result ≡ min total most }
-{
-    if total < MOST { total as u16 } else { 1024 }
-}
+impl Head {
+    // 0 clean, 1 otherwise.
+    fn verdict(self) -> u8
+        ensures { result ≡ verdict_of self.total }
+    {
+        u8::from(self.total != 0)
+    }
 
-// `VAR`, version 1.
-fn mark(out: &mut [u8])
-    requires { 5 ≤ length out.old }
-    ensures { Laid 0 ((86 ∷ 65 ∷ 82 ∷ []) ++ u16_bytes 1) out.old out.new }
-{
-    put_u8(out, 0, b'V');
-    put_u8(out, 1, b'A');
-    put_u8(out, 2, b'R');
-    put_u16(out, 3, 1);
-}
+    fn kept(self) -> u16
+        ensures { result ≡ min self.total most }
+    {
+        self.total.min(MOST) as u16
+    }
 
-pub fn head(out: &mut [u8], interfaces: u16, locals: u16, takes: u32, evaluations: u32, total: u32)
-    requires { 24 ≤ length out.old }
-    ensures { Headed interfaces locals takes evaluations total out.old out.new }
-{
-    mark(out);
-    put_u16(out, 5, interfaces);
-    put_u16(out, 7, locals);
-    put_u8(out, 9, verdict(total));
-    put_u32(out, 10, takes);
-    put_u32(out, 14, evaluations);
-    put_u32(out, 18, total);
-    put_u16(out, 22, kept(total));
+    pub fn put(self, out: &mut [u8])
+        requires { 24 ≤ length out.old }
+        ensures { Headed self.interfaces self.locals self.takes self.evaluations self.total out.old out.new }
+    {
+        put(out, 0, b"VAR");
+        put(out, 3, &VERSION.to_le_bytes());
+        put(out, 5, &self.interfaces.to_le_bytes());
+        put(out, 7, &self.locals.to_le_bytes());
+        put(out, 9, &[self.verdict()]);
+        put(out, 10, &self.takes.to_le_bytes());
+        put(out, 14, &self.evaluations.to_le_bytes());
+        put(out, 18, &self.total.to_le_bytes());
+        put(out, 22, &self.kept().to_le_bytes());
+    }
 }

@@ -1,4 +1,5 @@
 -- What the code asks of a count, tag by tag, is what the definitions say.
+use Rattle.std.specs.Prelude.{None, Option, Some}
 use mathlib.Core.Path.{◌≡◌, ◌∙◌, refl, sym, ap, ap₂, subst}
 use mathlib.Core.Bool.{Bool, true, false, cond, not, ◌&&◌, ◌||◌, and-true, and-false}
 use Prim.Native.Nat.{ℕ, zero, suc, ◌+◌, ◌/◌, ◌-◌, ◌≤◌, ◌<◌}
@@ -6,23 +7,15 @@ use native.Mathlib.Nat.{not-suc-le-zero}
 use native.Mathlib.Omega.{arith}
 use lib.Dec.{eqb, leb, ltb}
 use lib.ListN.{get_or-eq_default}
-use borrow.Author.Tests.{eqb-true, eqb-false, ne_eqb, ltb-true, ltb-false, le-leb, lt-leb}
-use Rattle.vir.specs.declared.header.FoundHeader.{FoundHeader}
-use Rattle.vir.specs.declared.header.FoundHeader.TheVariants.{Nothing as NoHeader}
-use Rattle.vir.specs.declared.interface.FoundKind.{FoundKind}
-use Rattle.vir.specs.declared.interface.FoundKind.TheVariants.{Nothing as NoKind}
-use Rattle.vir.specs.declared.step.Onward.TheVariants.{To, Nowhere}
+use borrow.Author.Tests.{eqb-true, eqb-false, le-leb}
 use Rattle.vir.specs.declared.step.Step.TheVariants.{Diverge}
-use Rattle.vir.specs.declared.step.FoundStep.{FoundStep}
-use Rattle.vir.specs.declared.step.FoundStep.TheVariants.{Step as Found, Nothing}
-use Rattle.vir.specs.Header.{headers, header_of}
 use Rattle.vir.specs.Ids.{none, layer_id_of}
-use Rattle.vir.specs.Interface.{kinds, kind_of}
 use Rattle.vir.specs.Step.{steps, step_of}
 use Rattle.records.specs.declared.layout.Counts.{Counts}
 use Rattle.records.specs.declared.record.StepRecord.{StepRecord}
-use Rattle.rules.specs.Faults.{or_none, kind_lists, header_has, step_has, step_named, step_fields}
+use Rattle.rules.specs.Faults.{or_none, step_has, step_named, step_fields}
 use Rattle.rules.proofs.Fits.{named-invoke, named-transfer, named_diverge, named_other}
+use Rattle.vir.specs.declared.step.Step.{Step}
 
 -- what holds at each of the first m numbers
 abbrev pub Each : (ℕ → Type 0) → ℕ → Type 0
@@ -36,60 +29,6 @@ each_at P (suc m) e k h = go (eqb k m) refl (λ (l : k < m). each_at P m e.0 k l
     go : (b : Bool) → eqb k m ≡ b → (k < m → P k) → P k
     go true q r = subst P (sym (eqb-true k m q)) e.1
     go false q r = let apart : k ≡ m → ⊥ = eqb-false k m q in r (omega arith)
-
--- any number is at least 0
-any : (n : ℕ) → true ≡ leb 0 n
-any n = sym (le-leb 0 n (omega arith))
-
--- 1, 2, any, 3, any
-abbrev pub kind_asked : ℕ → ℕ → Bool
-kind_asked k n = cond (leb k 1) (eqb n (k + 1)) (cond (eqb k 3) (eqb n 3) (eqb k 2 || eqb k 4))
-
-pub kind_asked_lem : (k n : ℕ) {x : Bool} → x ≡ kind_asked k n → x ≡ kind_lists (kind_of k) n
-unfolding kind_of
-kind_asked_lem k n p = p ∙ go (ltb k 5) refl
-  where
-    go : (b : Bool) → ltb k 5 ≡ b → kind_asked k n ≡ kind_lists (kind_of k) n
-    go true e = each_at (λ k. kind_asked k n ≡ kind_lists (kind_of k) n) 5 (((((tt, refl), refl), any n), refl), any n) k (ltb-true k 5 e)
-    go false e =
-        let past : 5 ≤ k = ltb-false k 5 e in
-        let nothing : kind_asked k n ≡ false =
-        simp (
-          lt-leb k 1 (omega arith),
-          ne_eqb k 3 (λ (q : k ≡ 3). omega (arith, q)),
-          ne_eqb k 2 (λ (q : k ≡ 2). omega (arith, q)),
-          ne_eqb k 4 (λ (q : k ≡ 4). omega (arith, q)),
-        ) in
-        nothing ∙ sym (ap (λ (f : FoundKind). kind_lists f n) (get_or-eq_default kinds NoKind past))
-
--- 0, 1, 1+, 1, 1+, 2, 0, any
-abbrev pub header_asked : ℕ → ℕ → Bool
-header_asked h n =
-    cond (eqb h 0 || eqb h 6) (eqb n 0)
-    (cond (eqb h 1 || eqb h 3) (eqb n 1) (cond (eqb h 2 || eqb h 4) (leb 1 n) (cond (eqb h 5) (eqb n 2) (eqb h 7))))
-
-pub header_asked_lem : (h n : ℕ) {x : Bool} → x ≡ header_asked h n → x ≡ header_has (header_of h) n
-unfolding header_of
-header_asked_lem h n p = p ∙ go (ltb h 8) refl
-  where
-    go : (b : Bool) → ltb h 8 ≡ b → header_asked h n ≡ header_has (header_of h) n
-    go true e =
-        each_at (λ h. header_asked h n ≡ header_has (header_of h) n) 8
-        ((((((((tt, refl), refl), refl), refl), refl), refl), refl), any n) h (ltb-true h 8 e)
-    go false e =
-        let past : 8 ≤ h = ltb-false h 8 e in
-        let nothing : header_asked h n ≡ false =
-        simp (
-          ne_eqb h 0 (λ (q : h ≡ 0). omega (arith, q)),
-          ne_eqb h 1 (λ (q : h ≡ 1). omega (arith, q)),
-          ne_eqb h 2 (λ (q : h ≡ 2). omega (arith, q)),
-          ne_eqb h 3 (λ (q : h ≡ 3). omega (arith, q)),
-          ne_eqb h 4 (λ (q : h ≡ 4). omega (arith, q)),
-          ne_eqb h 5 (λ (q : h ≡ 5). omega (arith, q)),
-          ne_eqb h 6 (λ (q : h ≡ 6). omega (arith, q)),
-          ne_eqb h 7 (λ (q : h ≡ 7). omega (arith, q)),
-        ) in
-        nothing ∙ sym (ap (λ (f : FoundHeader). header_has f n) (get_or-eq_default headers NoHeader past))
 
 -- 2, 1+, 1, 1+, 2, 2, 2, 3, 1+, 1+, 1+, 2, 3 from 8 on
 abbrev pub other_asked : ℕ → ℕ → Bool
@@ -108,7 +47,7 @@ other_asked_lem tag a b n h k p =
 
 no_other : (tag a b n : ℕ) → 20 < tag → step_has (step_of tag a b) n ≡ false
 unfolding step_of
-no_other tag a b n h = ap (λ (f : FoundStep). step_has f n) (get_or-eq_default (steps a b) Nothing h)
+no_other tag a b n h = ap (λ (f : Option Step). step_has f n) (get_or-eq_default (steps a b) None h)
 
 turned : (x y z : Bool) → (x && y && z) ≡ (z && x && y)
 turned x y true = and-true (x && y)
@@ -137,7 +76,7 @@ module _ (c : Counts) (t : StepRecord) where
   step-transfers h = ap₂ ◌&&◌ (sym (ap has h)) (named-transfer c t (omega (arith, h)) h)
 
   -- 0 or 1, 0 without an interface
-  diverges : (x : Bool) → ((not x || eqb n 0) && leb n 1) ≡ step_has (Found (Diverge (layer_id_of t.a) (cond x Nowhere (To (record { 0 = t.b }))))) n
+  diverges : (x : Bool) → ((not x || eqb n 0) && leb n 1) ≡ step_has (Some (Diverge (layer_id_of t.a) (cond x None (Some (record { 0 = t.b }))))) n
   diverges false = refl
   diverges true = go (eqb n 0) refl
     where

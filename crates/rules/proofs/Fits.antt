@@ -1,12 +1,11 @@
 -- What the fields' tests show of a list of refs, and the cases of an interface's entries.
-use mathlib.Core.Path.{◌≡◌, ◌∙◌, refl, sym, ap, subst}
-use mathlib.Core.Bool.{Bool, true, false, not, ◌&&◌, ◌||◌, and-true, and-false, or-true}
+use mathlib.Core.Path.{◌≡◌, ◌∙◌, ap, subst}
+use mathlib.Core.Bool.{Bool, true, ◌&&◌, ◌||◌}
 use mathlib.Core.List.{List}
 use Prim.Native.Nat.{ℕ, ◌+◌, ◌*◌, ◌≤◌, ◌<◌}
 use native.Mathlib.Omega.{arith}
 use lib.Dec.{eqb, ltb, leb}
 use borrow.Author.Tests.{leb-true, eqb-true, eq-eqb, ne_eqb, le-leb, lt-leb}
-use Rattle.vir.specs.Ids.{none}
 use Rattle.vir.specs.Interface.{kind_of}
 use Rattle.records.specs.declared.layout.Counts.{Counts}
 use Rattle.records.specs.declared.record.Run.{Run}
@@ -14,11 +13,13 @@ use Rattle.records.specs.declared.record.LayerRecord.{LayerRecord}
 use Rattle.records.specs.declared.record.InterfaceRecord.{InterfaceRecord}
 use Rattle.records.specs.declared.record.StageRecord.{StageRecord}
 use Rattle.records.specs.declared.record.StepRecord.{StepRecord}
-use Rattle.records.specs.declared.record.PortRecord.{PortRecord}
 use Rattle.records.specs.declared.running.Running.{Running}
 use Rattle.records.specs.Bytes.{u16_at}
 use Rattle.records.specs.Every.{every}
-use Rattle.rules.specs.Faults.{or_none, laid, list_at, layer_fields, kind_lists, closure_at, entries_named, interface_fields, stage_named, stage_lists, stage_fields, ports_laid, transfer_good, step_named, type_named, port_good}
+use Rattle.records.specs.Layout.{refs_at, ref_size}
+use Rattle.rules.specs.Faults.{or_none, laid, list_at, refs_below, layer_fields, kind_lists, closure_at, entries_named, interface_fields, stage_named, stage_lists, stage_fields, ports_laid, step_named}
+use Rattle.std.specs.List.{list_all, range_with_len}
+use Rattle.records.proofs.Every.{every_range}
 use Rattle.records.proofs.Guards.{left_true, right_true}
 
 pub laid-first : (running total : ℕ) (run : Run) → laid running total run ≡ true → run.first ≡ running
@@ -69,21 +70,6 @@ module _ (c : Counts) (r : Running) (t : StageRecord) (h : stage_fields c r t �
       leb-true (t.ports.first + t.ports.count + t.payload) c.ports
       (right_true (eqb t.ports.first r.ports) _ (left_true (ports_laid r.ports c.ports t.ports t.payload) _ first_two))
 
-module _ (c : Counts) (t : StageRecord) where
-  -- without a transfer there is no data
-  pub transfer-none : t.transfer.0 ≡ none → eqb t.payload 0 ≡ transfer_good c t
-  transfer-none h = go (eqb t.payload 0) refl ∙ sym (ap (λ (x : Bool). (x || ltb t.transfer.0 c.interfaces) && leb t.payload 1 && (eqb t.payload 0 || not x)) (eq-eqb _ _ h))
-    where
-      go : (x : Bool) → eqb t.payload 0 ≡ x → x ≡ (leb t.payload 1 && (x || false))
-      go true e = let zeroth : t.payload ≡ 0 = eqb-true t.payload 0 e in sym (ap (λ (x : Bool). x && true) (le-leb t.payload 1 (omega arith)))
-      go false e = sym (and-false (leb t.payload 1))
-
-  pub transfer-some : (t.transfer.0 ≡ none → ⊥) → (ltb t.transfer.0 c.interfaces && leb t.payload 1) ≡ transfer_good c t
-  transfer-some h =
-      sym (and-true (ltb t.transfer.0 c.interfaces && leb t.payload 1))
-      ∙ sym (ap (λ (x : Bool). ltb t.transfer.0 c.interfaces && leb t.payload 1 && x) (or-true (eqb t.payload 0)))
-      ∙ sym (ap (λ (x : Bool). (x || ltb t.transfer.0 c.interfaces) && leb t.payload 1 && (eqb t.payload 0 || not x)) (ne_eqb _ _ h))
-
 module _ (s : List ℕ) (c : Counts) (i : InterfaceRecord) (p : ℕ) (e : p ≡ list_at c i.list) where
   pub entries_inspect : i.kind ≡ 4 → every i.list.count (λ k. ltb (u16_at s (p + 2 * k)) c.locals) ≡ entries_named s c i
   entries_inspect h = rw e (simp (eq-eqb _ _ h))
@@ -108,13 +94,10 @@ module _ (c : Counts) (t : StepRecord) where
   pub named_other : 5 < t.tag → (t.tag ≡ 6 → ⊥) → (t.tag ≡ 7 → ⊥) → eqb t.b 0 ≡ step_named c t
   named_other h k l = simp (lt-leb _ _ h, ne_eqb _ _ k, ne_eqb _ _ l)
 
-module _ (c : Counts) (p : PortRecord) where
-  pub port_untyped : type_named c p.ty.0 ≡ false → false ≡ port_good c p
-  port_untyped h = sym (ap (λ (x : Bool). x && leb p.kind 7 && (eqb p.kind 6 || eqb p.b 0)) h)
+-- entry k of a list is ref first + k of them all
+pub entry_ref : (s : List ℕ) (c : Counts) (run : Run) (k : ℕ) → u16_at s (refs_at c + ref_size * (run.first + k)) ≡ u16_at s (list_at c run + 2 * k)
+entry_ref s c run k = ap (u16_at s) (omega arith)
 
-  -- a wire's b is any
-  pub port_wire : type_named c p.ty.0 ≡ true → p.kind ≡ 6 → true ≡ port_good c p
-  port_wire h k = simp (h, le-leb p.kind 7 (omega arith), eq-eqb _ _ k)
-
-  pub port_other : type_named c p.ty.0 ≡ true → (p.kind ≡ 6 → ⊥) → (leb p.kind 7 && eqb p.b 0) ≡ port_good c p
-  port_other h k = simp (h, ne_eqb _ _ k)
+pub refs_all : (s : List ℕ) (c : Counts) (run : Run) (n : ℕ)
+    → list_all (λ k. ltb (u16_at s (refs_at c + ref_size * (run.first + k))) n) (range_with_len 0 run.count) ≡ refs_below s c run n
+refs_all s c run n = every_range _ run.count ∙ (λ i. every run.count (λ k. ltb (entry_ref s c run k i) n))

@@ -1,11 +1,5 @@
 -- Document 01, "The image": whether a record keeps its rule, and where the next lists then start.
-use Rattle.std.specs.Prelude.{Bool, false, cond, not, ◌&&◌, ◌||◌, List, ℕ, ◌+◌, ◌*◌, eqb, ltb, leb}
-use Rattle.vir.specs.declared.header.FoundHeader.{FoundHeader}
-use Rattle.vir.specs.declared.header.FoundHeader.TheVariants.{Header, Nothing as NoHeader}
-use Rattle.vir.specs.declared.interface.FoundKind.{FoundKind}
-use Rattle.vir.specs.declared.interface.FoundKind.TheVariants.{Kind, Nothing as NoKind}
-use Rattle.vir.specs.declared.step.FoundStep.{FoundStep}
-use Rattle.vir.specs.declared.step.FoundStep.TheVariants.{Step, Nothing as NoStep}
+use Rattle.std.specs.Prelude.{Bool, false, cond, not, ◌&&◌, ◌||◌, List, ℕ, ◌+◌, ◌*◌, eqb, ltb, leb, None, Option, Some}
 use Rattle.vir.specs.Arity.{allows}
 use Rattle.vir.specs.Header.{header_of, header_ports}
 use Rattle.vir.specs.Ids.{none, idx}
@@ -24,6 +18,9 @@ use Rattle.records.specs.declared.running.Running.{Running}
 use Rattle.records.specs.Bytes.{u16_at}
 use Rattle.records.specs.Every.{every}
 use Rattle.records.specs.Layout.{refs_at}
+use Rattle.vir.specs.declared.interface.InterfaceKind.{InterfaceKind}
+use Rattle.vir.specs.declared.header.Header.{Header}
+use Rattle.vir.specs.declared.step.Step.{Step}
 
 -- an index names an existing record, or is none where that is allowed
 abbrev pub or_none : ℕ → ℕ → Bool
@@ -57,9 +54,9 @@ unfoldable pub layer_good : List ℕ → Counts → Running → LayerRecord → 
 layer_good s c r l = layer_fields c r l && refs_below s c l.stages c.stages
 
 -- counts 1, 2, any, 3, any
-abbrev pub kind_lists : FoundKind → ℕ → Bool
-kind_lists (Kind k) n = allows (entries_of k) n
-kind_lists NoKind n = false
+abbrev pub kind_lists : Option InterfaceKind → ℕ → Bool
+kind_lists (Some k) n = allows (entries_of k) n
+kind_lists None n = false
 
 -- Closure's second and third entry may be none
 abbrev pub closure_at : List ℕ → ℕ → ℕ → Bool
@@ -82,9 +79,9 @@ interface_fields c r i =
 unfoldable pub interface_good : List ℕ → Counts → Running → InterfaceRecord → Bool
 interface_good s c r i = interface_fields c r i && entries_named s c i
 
-abbrev pub header_has : FoundHeader → ℕ → Bool
-header_has (Header h) n = allows (header_ports h) n
-header_has NoHeader n = false
+abbrev pub header_has : Option Header → ℕ → Bool
+header_has (Some h) n = allows (header_ports h) n
+header_has None n = false
 
 -- the header's ports, with the transfer's data port behind them uncounted
 abbrev pub ports_laid : ℕ → ℕ → Run → ℕ → Bool
@@ -120,9 +117,9 @@ local_good c l = type_named c l.ty.0 && flags_good l.flags
 abbrev pub type_good : TypeRecord → Bool
 type_good t = flags_good t.upright && flags_good t.inverted
 
-abbrev pub step_has : FoundStep → ℕ → Bool
-step_has (Step s) n = allows (step_ports s) n
-step_has NoStep n = false
+abbrev pub step_has : Option Step → ℕ → Bool
+step_has (Some s) n = allows (step_ports s) n
+step_has None n = false
 
 -- Invoke: b local. Transfer: a 0, b interface. Diverge: a target layer, b interface?. The others: b 0
 abbrev pub step_named : Counts → StepRecord → Bool

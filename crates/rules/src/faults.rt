@@ -1,37 +1,32 @@
 // Whether a record keeps its rule: one function for each rule of document 01.
-ghost use Rattle.std.specs.Prelude.{◌≡◌, ℕ, ◌+◌, ◌*◌, ◌≤◌, ltb, length};
+ghost use Rattle.std.specs.Prelude.{◌≡◌, ℕ, Some, ◌+◌, ◌≤◌};
 ghost use Rattle.vir.specs.Header.{header_of};
 ghost use Rattle.vir.specs.Interface.{kind_of};
 ghost use Rattle.vir.specs.Step.{step_of};
-ghost use Rattle.records.specs.Bytes.{u16_at};
-ghost use Rattle.records.specs.Every.{every};
-ghost use Rattle.records.specs.Layout.{refs_at, length_of};
-ghost use Rattle.rules.specs.Faults.{or_none, type_named, flags_good, laid, layer_fields, layer_good, kind_lists, closure_at, entries_named, interface_fields, interface_good, header_has, ports_laid, transfer_good, stage_named, stage_lists, stage_fields, stage_good, local_good, type_good, step_has, step_fields, step_good, port_good};
+ghost use Rattle.vir.specs.declared.interface.InterfaceKind.TheVariants.{Closure};
+ghost use Rattle.rules.specs.Faults.{or_none, type_named, flags_good, laid, list_at, refs_below, layer_fields, layer_good, kind_lists, closure_at, entries_named, interface_fields, interface_good, header_has, ports_laid, transfer_good, stage_named, stage_lists, stage_fields, stage_good, local_good, type_good, step_has, step_fields, step_good, port_good};
 
-use records::bytes::u16_at;
+use records::Records;
 use records::layout::Counts;
 use records::record::{
     InterfaceRecord, LayerRecord, LocalRecord, PortRecord, Run, StageRecord, StepRecord, TypeRecord,
 };
 use records::running::Running;
-use vir::ids::Type;
-
-fn names(n: u16, i: u16) -> bool
-    ensures { result ≡ ltb i n }
-{
-    i < n
-}
+use vir::header::Header;
+use vir::ids::{NONE, Type};
+use vir::interface::InterfaceKind;
+use vir::port::PortKind;
 
 fn or_none(n: u16, i: u16) -> bool
     ensures { result ≡ or_none n i }
 {
-    (i == 65535) | (i < n)
+    i == NONE || i < n
 }
 
 fn type_named(c: Counts, t: Type) -> bool
     ensures { result ≡ type_named c t.0 }
 {
-    t.0 % 32768 < c.types
+    t.idx().0 < c.types
 }
 
 fn flags_good(f: u8) -> bool
@@ -40,226 +35,160 @@ fn flags_good(f: u8) -> bool
     f < 16
 }
 
+// The header's ports, with the transfer's data port behind them uncounted.
+fn ports_laid(running: usize, total: u16, run: Run, payload: u8) -> bool
+    ensures { result ≡ ports_laid running total run payload }
+{
+    let first = run.first as usize;
+    first == running && first + run.count as usize + payload as usize <= total as usize
+}
+
+// A list starts at the running place, and does not run past its section.
 fn laid(running: usize, total: u16, run: Run) -> bool
     ensures { result ≡ laid running total run }
 {
-    (run.first as usize) == running && running + (run.count as usize) <= (total as usize)
+    ports_laid(running, total, run, 0)
 }
 
-// Whether each of the refs from a place on names one of n records.
-pub fn refs_below(s: &[u8], at: usize, count: u16, n: u16) -> bool
-    requires { at + 2 * count ≤ length s.now }
-    ensures { result ≡ every count (λ k. ltb (u16_at s.now (at + 2 * k)) n) }
+// Whether each of a list's refs names one of n records.
+fn refs_below(records: &Records, run: Run, n: u16) -> bool
+    requires { run.first + run.count ≤ records.now.counts.refs }
+    ensures { result ≡ refs_below records.now.bytes.now records.now.counts run n }
 {
-    let mut i: u16 = 0;
-    let mut p = at;
-    while i < count {
-        if n <= u16_at(s, p) {
-            return false;
-        }
-        p += 2;
-        i += 1;
-    }
-    true
+    (0..run.count as usize).all(|k| records.reference(run.first as usize + k) < n)
 }
 
 pub fn local_good(c: Counts, l: LocalRecord) -> bool
     ensures { result ≡ local_good c l }
 {
-    let ty = l.ty;
-    type_named(c, ty) & flags_good(l.flags)
+    type_named(c, l.ty) && flags_good(l.flags)
 }
 
 pub fn type_good(t: TypeRecord) -> bool
     ensures { result ≡ type_good t }
 {
-    flags_good(t.upright) & flags_good(t.inverted)
+    flags_good(t.upright) && flags_good(t.inverted)
 }
 
+#[tactic(auto, using(crate::proofs::Cases::port_case))]
 pub fn port_good(c: Counts, p: PortRecord) -> bool
     ensures { result ≡ port_good c p }
 {
-    let ty = p.ty;
-    if !type_named(c, ty) {
-        return false;
-    }
-    if p.kind == 6 {
-        return true;
-    }
-    (p.kind <= 7) & (p.b == 0)
+    type_named(c, p.ty)
+        && match PortKind::from_fields(p.kind, p.a, p.b) {
+            Some(PortKind::Wire(..)) => true,
+            Some(_) => p.b == 0,
+            None => false,
+        }
 }
 
-// 1, 2, any, 3, any: to compare is quicker than to make the kind.
 fn kind_lists(kind: u8, count: u16) -> bool
     ensures { result ≡ kind_lists (kind_of kind) count }
 {
-    if kind <= 1 {
-        return count == (kind as u16) + 1;
-    }
-    if kind == 3 {
-        return count == 3;
-    }
-    (kind == 2) | (kind == 4)
+    InterfaceKind::try_from(kind).is_ok_and(|k| k.entries().allows(count))
 }
 
-// 0, 1, 1+, 1, 1+, 2, 0, any.
 fn header_has(tag: u8, count: u16) -> bool
     ensures { result ≡ header_has (header_of tag) count }
 {
-    if (tag == 0) | (tag == 6) {
-        return count == 0;
-    }
-    if (tag == 1) | (tag == 3) {
-        return count == 1;
-    }
-    if (tag == 2) | (tag == 4) {
-        return 1 <= count;
-    }
-    if tag == 5 {
-        return count == 2;
-    }
-    tag == 7
+    Header::try_from(tag).is_ok_and(|h| h.ports().allows(count))
 }
 
 fn layer_fields(c: Counts, r: Running, l: LayerRecord) -> bool
     ensures { result ≡ layer_fields c r l }
 {
-    let run = l.stages;
-    or_none(c.layers, l.parent.0) & laid(r.refs, c.refs, run)
+    or_none(c.layers, l.parent.0) && laid(r.refs, c.refs, l.stages)
 }
 
-pub fn layer_good(s: &[u8], c: Counts, at: usize, r: Running, l: LayerRecord) -> bool
-    requires at_value { at ≡ refs_at c }
-    requires s_len { length s.now ≡ length_of c }
-    ensures { result ≡ layer_good s.now c r l }
+#[tactic(auto, unfolding(crate::specs::Faults::layer_good))]
+pub fn layer_good(records: &Records, r: Running, l: LayerRecord) -> bool
+    ensures { result ≡ layer_good records.now.bytes.now records.now.counts r l }
 {
-    if !layer_fields(c, r, l) {
-        return false;
-    }
-    refs_below(
-        s,
-        at + 2 * (l.stages.first as usize),
-        l.stages.count,
-        c.stages,
-    )
+    let c = records.counts;
+    layer_fields(c, r, l) && refs_below(records, l.stages, c.stages)
 }
 
-fn closure_named(s: &[u8], at: usize, n: u16) -> bool
-    requires { at + 6 ≤ length s.now }
-    ensures { result ≡ closure_at s.now at n }
+// A Closure's three; its fork and its drop may be missing.
+fn closure_named(records: &Records, run: Run, n: u16) -> bool
+    requires { run.first + 3 ≤ records.now.counts.refs }
+    ensures { result ≡ closure_at records.now.bytes.now (list_at records.now.counts run) n }
 {
-    (u16_at(s, at) < n) & or_none(n, u16_at(s, at + 2)) & or_none(n, u16_at(s, at + 4))
+    let k = run.first as usize;
+    records.reference(k) < n
+        && or_none(n, records.reference(k + 1))
+        && or_none(n, records.reference(k + 2))
 }
 
-fn entries_named(s: &[u8], c: Counts, at: usize, i: InterfaceRecord) -> bool
-    requires at_value { at ≡ refs_at c + 2 * i.list.first }
-    requires count_in_bounds { at + 2 * i.list.count ≤ length s.now }
-    requires count_value { i.kind ≡ 3 → i.list.count ≡ 3 }
-    ensures { result ≡ entries_named s.now c i }
+#[tactic(auto, using(crate::proofs::Cases::entries_case))]
+fn entries_named(records: &Records, i: InterfaceRecord) -> bool
+    requires fits { i.list.first + i.list.count ≤ records.now.counts.refs }
+    requires three { kind_of i.kind ≡ Some Closure → i.list.count ≡ 3 }
+    ensures { result ≡ entries_named records.now.bytes.now records.now.counts i }
 {
-    if i.kind == 4 {
-        return refs_below(s, at, i.list.count, c.locals);
+    let c = records.counts;
+    match InterfaceKind::try_from(i.kind) {
+        Ok(InterfaceKind::Inspect) => refs_below(records, i.list, c.locals),
+        Ok(InterfaceKind::Closure) => closure_named(records, i.list, c.stages),
+        _ => refs_below(records, i.list, c.stages),
     }
-    if i.kind == 3 {
-        return closure_named(s, at, c.stages);
-    }
-    refs_below(s, at, i.list.count, c.stages)
 }
 
 fn interface_fields(c: Counts, r: Running, i: InterfaceRecord) -> bool
     ensures { result ≡ interface_fields c r i }
 {
-    let list = i.list;
-    if !kind_lists(i.kind, i.list.count) {
-        return false;
-    }
-    if !laid(r.refs, c.refs, list) {
-        return false;
-    }
-    (i.kind == 2) | (i.key == 0)
+    kind_lists(i.kind, i.list.count)
+        && (i.kind == InterfaceKind::Match as u8 || i.key == 0)
+        && laid(r.refs, c.refs, i.list)
 }
 
-pub fn interface_good(s: &[u8], c: Counts, at: usize, r: Running, i: InterfaceRecord) -> bool
-    requires at_value { at ≡ refs_at c }
-    requires s_len { length s.now ≡ length_of c }
-    ensures { result ≡ interface_good s.now c r i }
+#[tactic(auto, unfolding(crate::specs::Faults::interface_good))]
+pub fn interface_good(records: &Records, r: Running, i: InterfaceRecord) -> bool
+    ensures { result ≡ interface_good records.now.bytes.now records.now.counts r i }
 {
-    if !interface_fields(c, r, i) {
-        return false;
-    }
-    entries_named(s, c, at + 2 * (i.list.first as usize), i)
-}
-
-fn ports_laid(running: usize, total: u16, run: Run, payload: u8) -> bool
-    ensures { result ≡ ports_laid running total run payload }
-{
-    (run.first as usize) == running
-        && running + (run.count as usize) + (payload as usize) <= (total as usize)
+    interface_fields(records.counts, r, i) && entries_named(records, i)
 }
 
 fn transfer_good(c: Counts, t: StageRecord) -> bool
     ensures { result ≡ transfer_good c t }
 {
-    if t.transfer.0 == 65535 {
-        return t.payload == 0;
-    }
-    (t.transfer.0 < c.interfaces) & (t.payload <= 1)
+    or_none(c.interfaces, t.transfer.0)
+        && t.payload <= 1
+        && (t.payload == 0 || t.transfer.0 != NONE)
 }
 
 fn stage_named(c: Counts, t: StageRecord) -> bool
     ensures { result ≡ stage_named c t }
 {
-    if !names(c.interfaces, t.interface.0) {
-        return false;
-    }
-    if !or_none(c.layers, t.layer.0) {
-        return false;
-    }
-    if !header_has(t.header, t.ports.count) {
-        return false;
-    }
-    transfer_good(c, t)
+    t.interface.0 < c.interfaces
+        && or_none(c.layers, t.layer.0)
+        && header_has(t.header, t.ports.count)
+        && transfer_good(c, t)
 }
 
 fn stage_lists(c: Counts, r: Running, t: StageRecord) -> bool
     ensures { result ≡ stage_lists c r t }
 {
-    let ports = t.ports;
-    let steps = t.steps;
-    let declarations = t.declarations;
-    if !ports_laid(r.ports, c.ports, ports, t.payload) {
-        return false;
-    }
-    if !laid(r.steps, c.steps, steps) {
-        return false;
-    }
-    laid(r.refs, c.refs, declarations)
+    ports_laid(r.ports, c.ports, t.ports, t.payload)
+        && laid(r.steps, c.steps, t.steps)
+        && laid(r.refs, c.refs, t.declarations)
 }
 
 fn stage_fields(c: Counts, r: Running, t: StageRecord) -> bool
     ensures { result ≡ stage_fields c r t }
 {
-    if !stage_named(c, t) {
-        return false;
-    }
-    stage_lists(c, r, t)
+    stage_named(c, t) && stage_lists(c, r, t)
 }
 
-pub fn stage_good(s: &[u8], c: Counts, at: usize, r: Running, t: StageRecord) -> bool
-    requires at_value { at ≡ refs_at c }
-    requires s_len { length s.now ≡ length_of c }
-    ensures { result ≡ stage_good s.now c r t }
+#[tactic(auto, unfolding(crate::specs::Faults::stage_good))]
+pub fn stage_good(records: &Records, r: Running, t: StageRecord) -> bool
+    ensures { result ≡ stage_good records.now.bytes.now records.now.counts r t }
 {
-    if !stage_fields(c, r, t) {
-        return false;
-    }
-    refs_below(
-        s,
-        at + 2 * (t.declarations.first as usize),
-        t.declarations.count,
-        c.locals,
-    )
+    let c = records.counts;
+    stage_fields(c, r, t) && refs_below(records, t.declarations, c.locals)
 }
+
+// Steps are judged by comparing tags. To make the step and ask it was tried, and misses what is asked of check: on three images of the benchmark
+// it would be slower than the Rust (docs/BENCHMARK.md).
 
 // Ports 0, 1, 1, 1, 1, 2.
 fn invoke_good(c: Counts, t: StepRecord) -> bool
@@ -282,9 +211,7 @@ pub fn diverge_good(c: Counts, t: StepRecord) -> bool
     ensures { result ≡ step_fields c t }
 {
     let n = t.ports.count;
-    (n <= 1)
-        & ((t.a < (c.layers as u32)) & or_none(c.interfaces, t.b))
-        & ((t.b != 65535) | (n == 0))
+    (n <= 1) & ((t.a < (c.layers as u32)) & or_none(c.interfaces, t.b)) & ((t.b != NONE) | (n == 0))
 }
 
 // 2, 1+, 1, 1+, 2, 2, 2, 3, 1+, 1+, 1+, 2, 3 from tag 8 on.
@@ -333,9 +260,5 @@ fn step_fields(c: Counts, t: StepRecord) -> bool
 pub fn step_good(c: Counts, r: Running, t: StepRecord) -> bool
     ensures { result ≡ step_good c r t }
 {
-    let ports = t.ports;
-    if !laid(r.ports, c.ports, ports) {
-        return false;
-    }
-    step_fields(c, t)
+    step_fields(c, t) && laid(r.ports, c.ports, t.ports)
 }

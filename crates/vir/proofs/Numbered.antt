@@ -1,4 +1,5 @@
 -- Document 01's number of a case is the place from which the case is read.
+use Rattle.std.specs.Prelude.{None, Option, Some}
 use mathlib.Core.Path.{◌≡◌, ◌∙◌, refl, sym, ap}
 use mathlib.Core.Bool.{Bool, true, false, ◌&&◌}
 use mathlib.Core.List.{List, [], ◌∷◌}
@@ -10,17 +11,9 @@ use lib.ListN.{length, get_or, get_or-eq_default}
 use borrow.Author.Tests.{ltb-true, ltb-false}
 use Rattle.effect.proofs.Finite.{both_left, both_right}
 use Rattle.vir.specs.declared.interface.InterfaceKind.{InterfaceKind}
-use Rattle.vir.specs.declared.interface.FoundKind.{FoundKind}
-use Rattle.vir.specs.declared.interface.FoundKind.TheVariants.{Kind, Nothing as NoKind}
 use Rattle.vir.specs.declared.header.Header.{Header}
-use Rattle.vir.specs.declared.header.FoundHeader.{FoundHeader}
-use Rattle.vir.specs.declared.header.FoundHeader.TheVariants.{Header as AHeader, Nothing as NoHeader}
 use Rattle.vir.specs.declared.port.PortKind.{PortKind}
-use Rattle.vir.specs.declared.port.FoundPort.{FoundPort}
-use Rattle.vir.specs.declared.port.FoundPort.TheVariants.{Port, Nothing as NoPort}
 use Rattle.vir.specs.declared.step.Step.{Step}
-use Rattle.vir.specs.declared.step.FoundStep.{FoundStep}
-use Rattle.vir.specs.declared.step.FoundStep.TheVariants.{Step as AStep, Nothing as NoStep}
 use Rattle.vir.specs.Header.{header_number, header_of, headers}
 use Rattle.vir.specs.Interface.{kind_number, kind_of, kinds}
 use Rattle.vir.specs.Port.{port_number, port_of, ports}
@@ -52,34 +45,34 @@ numbered f l d x t ne i e = go (ltb i (length l)) refl
     go false h = absurd (ne (sym e ∙ get_or-eq_default l d (ltb-false i (length l) h)))
 
 -- the number of what was found, if anything
-abbrev found_kind : FoundKind → ℕ
-found_kind (Kind k) = kind_number k
-found_kind NoKind = 0
+abbrev found_kind : Option InterfaceKind → ℕ
+found_kind (Some k) = kind_number k
+found_kind None = 0
 
-abbrev found_header : FoundHeader → ℕ
-found_header (AHeader h) = header_number h
-found_header NoHeader = 0
+abbrev found_header : Option Header → ℕ
+found_header (Some h) = header_number h
+found_header None = 0
 
-abbrev found_port : FoundPort → ℕ
-found_port (Port p) = port_number p
-found_port NoPort = 0
+abbrev found_port : Option PortKind → ℕ
+found_port (Some p) = port_number p
+found_port None = 0
 
-abbrev found_step : FoundStep → ℕ
-found_step (AStep s) = step_tag s
-found_step NoStep = 0
+abbrev found_step : Option Step → ℕ
+found_step (Some s) = step_tag s
+found_step None = 0
 
-pub kind_number_lem : (n : ℕ) (k : InterfaceKind) → kind_of n ≡ Kind k → kind_number k ≡ n
+pub kind_number_lem : (n : ℕ) (k : InterfaceKind) → kind_of n ≡ Some k → kind_number k ≡ n
 unfolding kind_of
-kind_number_lem n k = numbered found_kind kinds NoKind (Kind k) tt (λ e. let z : ◌≡◌ {A = ℕ} 0 1 = cc in omega arith) n
+kind_number_lem n k = numbered found_kind kinds None (Some k) tt (λ e. let z : ◌≡◌ {A = ℕ} 0 1 = cc in omega arith) n
 
-pub header_number_lem : (n : ℕ) (h : Header) → header_of n ≡ AHeader h → header_number h ≡ n
+pub header_number_lem : (n : ℕ) (h : Header) → header_of n ≡ Some h → header_number h ≡ n
 unfolding header_of
-header_number_lem n h = numbered found_header headers NoHeader (AHeader h) tt (λ e. let z : ◌≡◌ {A = ℕ} 0 1 = cc in omega arith) n
+header_number_lem n h = numbered found_header headers None (Some h) tt (λ e. let z : ◌≡◌ {A = ℕ} 0 1 = cc in omega arith) n
 
-pub port_number_lem : (n a b : ℕ) (p : PortKind) → port_of n a b ≡ Port p → port_number p ≡ n
+pub port_number_lem : (n a b : ℕ) (p : PortKind) → port_of n a b ≡ Some p → port_number p ≡ n
 unfolding port_of
-port_number_lem n a b p = numbered found_port (ports a b) NoPort (Port p) tt (λ e. let z : ◌≡◌ {A = ℕ} 0 1 = cc in omega arith) n
+port_number_lem n a b p = numbered found_port (ports a b) None (Some p) tt (λ e. let z : ◌≡◌ {A = ℕ} 0 1 = cc in omega arith) n
 
-pub step-tag : (n a b : ℕ) (s : Step) → step_of n a b ≡ AStep s → step_tag s ≡ n
+pub step-tag : (n a b : ℕ) (s : Step) → step_of n a b ≡ Some s → step_tag s ≡ n
 unfolding step_of
-step-tag n a b s = numbered found_step (steps a b) NoStep (AStep s) tt (λ e. let z : ◌≡◌ {A = ℕ} 0 1 = cc in omega arith) n
+step-tag n a b s = numbered found_step (steps a b) None (Some s) tt (λ e. let z : ◌≡◌ {A = ℕ} 0 1 = cc in omega arith) n

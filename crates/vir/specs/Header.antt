@@ -1,11 +1,9 @@
 -- A stage's header: document 01's number, and how many ports it has.
-use Rattle.std.specs.Prelude.{List, [], ◌∷◌, ℕ, get_or}
+use Rattle.std.specs.Prelude.{List, [], ◌∷◌, ℕ, get_or, None, Option, Some}
 use Rattle.vir.specs.declared.arity.Arity.{Arity}
 use Rattle.vir.specs.declared.arity.Arity.TheVariants.{Exactly, AtLeast}
 use Rattle.vir.specs.declared.header.Header.{Header}
 use Rattle.vir.specs.declared.header.Header.TheVariants.{Bare, Const, Fn, Match, Closure, Fork, Drop, Entry}
-use Rattle.vir.specs.declared.header.FoundHeader.{FoundHeader}
-use Rattle.vir.specs.declared.header.FoundHeader.TheVariants.{Header as Found, Nothing}
 
 abbrev pub header_number : Header → ℕ
 header_number Bare = 0
@@ -18,20 +16,20 @@ header_number Drop = 6
 header_number Entry = 7
 
 -- in the order of the numbers
-abbrev pub headers : List FoundHeader
+abbrev pub headers : List (Option Header)
 headers =
-    Found Bare ∷
-    Found Const ∷
-    Found Fn ∷
-    Found Match ∷
-    Found Closure ∷
-    Found Fork ∷
-    Found Drop ∷
-    Found Entry ∷
+    Some Bare ∷
+    Some Const ∷
+    Some Fn ∷
+    Some Match ∷
+    Some Closure ∷
+    Some Fork ∷
+    Some Drop ∷
+    Some Entry ∷
     []
 
-unfoldable pub header_of : ℕ → FoundHeader
-header_of n = get_or headers n Nothing
+unfoldable pub header_of : ℕ → Option Header
+header_of n = get_or headers n None
 
 -- 0, 1, 1 or more, 1, 1 or more, 2, 0, any
 abbrev pub header_ports : Header → Arity

@@ -1,11 +1,9 @@
 -- An interface's kind: document 01's number, and how many entries it lists.
-use Rattle.std.specs.Prelude.{List, [], ◌∷◌, ℕ, get_or}
+use Rattle.std.specs.Prelude.{List, [], ◌∷◌, ℕ, get_or, None, Option, Some}
 use Rattle.vir.specs.declared.arity.Arity.{Arity}
 use Rattle.vir.specs.declared.arity.Arity.TheVariants.{Exactly, AtLeast}
 use Rattle.vir.specs.declared.interface.InterfaceKind.{InterfaceKind}
 use Rattle.vir.specs.declared.interface.InterfaceKind.TheVariants.{Unconditional, Branch, Match, Closure, Inspect}
-use Rattle.vir.specs.declared.interface.FoundKind.{FoundKind}
-use Rattle.vir.specs.declared.interface.FoundKind.TheVariants.{Kind, Nothing}
 
 abbrev pub kind_number : InterfaceKind → ℕ
 kind_number Unconditional = 0
@@ -15,17 +13,17 @@ kind_number Closure = 3
 kind_number Inspect = 4
 
 -- in the order of the numbers
-abbrev pub kinds : List FoundKind
+abbrev pub kinds : List (Option InterfaceKind)
 kinds =
-    Kind Unconditional ∷
-    Kind Branch ∷
-    Kind Match ∷
-    Kind Closure ∷
-    Kind Inspect ∷
+    Some Unconditional ∷
+    Some Branch ∷
+    Some Match ∷
+    Some Closure ∷
+    Some Inspect ∷
     []
 
-unfoldable pub kind_of : ℕ → FoundKind
-kind_of n = get_or kinds n Nothing
+unfoldable pub kind_of : ℕ → Option InterfaceKind
+kind_of n = get_or kinds n None
 
 -- 1, 2, any, 3, any
 abbrev pub entries_of : InterfaceKind → Arity

@@ -1,17 +1,14 @@
 -- A step: document 01's tag, what its fields say, and how many ports it has.
-use Rattle.std.specs.Prelude.{cond, List, [], ◌∷◌, ℕ, eqb, get_or}
+use Rattle.std.specs.Prelude.{cond, List, [], ◌∷◌, ℕ, eqb, get_or, None, Option, Some}
 use Rattle.vir.specs.declared.arity.Arity.{Arity}
 use Rattle.vir.specs.declared.arity.Arity.TheVariants.{Exactly, AtLeast, AtMost}
 use Rattle.vir.specs.declared.invocation.Invocation.{Invocation}
 use Rattle.vir.specs.declared.invocation.Invocation.TheVariants.{Barrier, Read, Write, ReadBarrier, BarrierWrite, ReadWrite}
-use Rattle.vir.specs.declared.step.Onward.{Onward}
-use Rattle.vir.specs.declared.step.Onward.TheVariants.{To, Nowhere}
 use Rattle.vir.specs.declared.step.Step.{Step}
 use Rattle.vir.specs.declared.step.Step.TheVariants.{Invoke, Transfer, Diverge, Link, Call, Const, Composite, Rewrap, Enum, Union, Ref, List as Listing, String, InlineIvy, BoolNot, BoolAnd}
-use Rattle.vir.specs.declared.step.FoundStep.{FoundStep}
-use Rattle.vir.specs.declared.step.FoundStep.TheVariants.{Step as Found, Nothing}
 use Rattle.vir.specs.Ids.{none, layer_id_of}
 use Rattle.vir.specs.Invocation.{invocation_number, invocation_ports}
+use Rattle.vir.specs.declared.ids.InterfaceId.{InterfaceId}
 
 -- tags 0 to 5 are the invocations, in their order
 abbrev pub step_tag : Step → ℕ
@@ -33,14 +30,14 @@ step_tag (BoolNot key) = 19
 step_tag (BoolAnd key) = 20
 
 -- none means that there is no interface
-abbrev pub onward_of : ℕ → Onward
-onward_of b = cond (eqb b none) Nowhere (To (record { 0 = b }))
+abbrev pub onward_of : ℕ → Option InterfaceId
+onward_of b = cond (eqb b none) None (Some (record { 0 = b }))
 
-abbrev pub invoke : ℕ → ℕ → Invocation → FoundStep
-invoke a b i = Found (Invoke (record { 0 = a }) (record { 0 = b }) i)
+abbrev pub invoke : ℕ → ℕ → Invocation → Option Step
+invoke a b i = Some (Invoke (record { 0 = a }) (record { 0 = b }) i)
 
 -- in the order of the numbers
-abbrev pub steps : ℕ → ℕ → List FoundStep
+abbrev pub steps : ℕ → ℕ → List (Option Step)
 steps a b =
     invoke a b Barrier ∷
     invoke a b Read ∷
@@ -48,32 +45,32 @@ steps a b =
     invoke a b ReadBarrier ∷
     invoke a b BarrierWrite ∷
     invoke a b ReadWrite ∷
-    Found (Transfer (record { 0 = b })) ∷
-    Found (Diverge (layer_id_of a) (onward_of b)) ∷
-    Found (Link a) ∷
-    Found (Call a) ∷
-    Found (Const a) ∷
-    Found (Composite a) ∷
-    Found (Rewrap a) ∷
-    Found (Enum a) ∷
-    Found (Union a) ∷
-    Found (Ref a) ∷
-    Found (Listing a) ∷
-    Found (String a) ∷
-    Found (InlineIvy a) ∷
-    Found (BoolNot a) ∷
-    Found (BoolAnd a) ∷
+    Some (Transfer (record { 0 = b })) ∷
+    Some (Diverge (layer_id_of a) (onward_of b)) ∷
+    Some (Link a) ∷
+    Some (Call a) ∷
+    Some (Const a) ∷
+    Some (Composite a) ∷
+    Some (Rewrap a) ∷
+    Some (Enum a) ∷
+    Some (Union a) ∷
+    Some (Ref a) ∷
+    Some (Listing a) ∷
+    Some (String a) ∷
+    Some (InlineIvy a) ∷
+    Some (BoolNot a) ∷
+    Some (BoolAnd a) ∷
     []
 
-unfoldable pub step_of : ℕ → ℕ → ℕ → FoundStep
-step_of tag a b = get_or (steps a b) tag Nothing
+unfoldable pub step_of : ℕ → ℕ → ℕ → Option Step
+step_of tag a b = get_or (steps a b) tag None
 
 -- 0 or 1 of a transfer, 0 of a Diverge without one; then 2, 1+, 1, 1+, 2, 2, 2, 3, 1+, 1+, 1+, 2, 3
 abbrev pub step_ports : Step → Arity
 step_ports (Invoke span local i) = invocation_ports i
 step_ports (Transfer interface) = AtMost 1
-step_ports (Diverge layer (To interface)) = AtMost 1
-step_ports (Diverge layer Nowhere) = Exactly 0
+step_ports (Diverge layer (Some interface)) = AtMost 1
+step_ports (Diverge layer None) = Exactly 0
 step_ports (Link key) = Exactly 2
 step_ports (Call key) = AtLeast 1
 step_ports (Const key) = Exactly 1

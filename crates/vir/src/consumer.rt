@@ -1,7 +1,7 @@
-// What report_errors has as Option<Option<Span>>: who takes a value, going from its last use to its first.
+// What report_errors has as Option<Option<Span>>, a case of its own in document 01: who takes a value, going from its last use to its first.
 use crate::ids::Span;
 
-#[derive(Clone, Copy)]
+#[derive(Clone, Copy, Debug, PartialEq, Eq)]
 pub enum Consumer {
     // nobody
     Missing,

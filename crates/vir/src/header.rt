@@ -1,9 +1,10 @@
-ghost use Rattle.std.specs.Prelude.{◌≡◌};
+ghost use Rattle.std.specs.Prelude.{◌≡◌, ok_or};
 ghost use Rattle.vir.specs.Header.{header_of, header_ports};
 
 use crate::arity::Arity;
+use crate::unknown::Unknown;
 
-#[derive(Clone, Copy)]
+#[derive(Clone, Copy, Debug, PartialEq, Eq)]
 pub enum Header {
     Bare,
     Const,
@@ -15,29 +16,27 @@ pub enum Header {
     Entry,
 }
 
-#[derive(Clone, Copy)]
-pub enum FoundHeader {
-    Header(Header),
-    Nothing,
+impl TryFrom<u8> for Header {
+    type Error = Unknown;
+
+    ghost try_from_gives = { λ n r. r ≡ ok_or (header_of n) (record { 0 = n }) };
+
+    fn try_from(n: u8) -> Result<Header, Unknown> {
+        match n {
+            0 => Ok(Header::Bare),
+            1 => Ok(Header::Const),
+            2 => Ok(Header::Fn),
+            3 => Ok(Header::Match),
+            4 => Ok(Header::Closure),
+            5 => Ok(Header::Fork),
+            6 => Ok(Header::Drop),
+            7 => Ok(Header::Entry),
+            _ => Err(Unknown(n)),
+        }
+    }
 }
 
 impl Header {
-    pub fn from_number(n: u8) -> FoundHeader
-        ensures { result ≡ header_of n }
-    {
-        match n {
-            0 => FoundHeader::Header(Header::Bare),
-            1 => FoundHeader::Header(Header::Const),
-            2 => FoundHeader::Header(Header::Fn),
-            3 => FoundHeader::Header(Header::Match),
-            4 => FoundHeader::Header(Header::Closure),
-            5 => FoundHeader::Header(Header::Fork),
-            6 => FoundHeader::Header(Header::Drop),
-            7 => FoundHeader::Header(Header::Entry),
-            _ => FoundHeader::Nothing,
-        }
-    }
-
     // How many ports it has, the transfer's data port not counted.
     pub fn ports(self) -> Arity
         ensures { result ≡ header_ports self }

@@ -2,50 +2,53 @@
 ghost use Rattle.std.specs.Prelude.{◌≡◌};
 ghost use Rattle.vir.specs.Ids.{layer_id_of, inverse, is_inverse, idx};
 
-#[derive(Clone, Copy)]
+// Document 01: where an index may be missing, this says that it is.
+pub const NONE: u16 = 65535;
+
+#[derive(Clone, Copy, Debug, PartialEq, Eq)]
 pub struct LayerId(pub u16);
 
-#[derive(Clone, Copy)]
+#[derive(Clone, Copy, Debug, PartialEq, Eq)]
 pub struct StageId(pub u16);
 
-#[derive(Clone, Copy)]
+#[derive(Clone, Copy, Debug, PartialEq, Eq)]
 pub struct InterfaceId(pub u16);
 
-#[derive(Clone, Copy)]
+#[derive(Clone, Copy, Debug, PartialEq, Eq)]
 pub struct WireId(pub u16);
 
-#[derive(Clone, Copy)]
+#[derive(Clone, Copy, Debug, PartialEq, Eq)]
 pub struct Local(pub u16);
 
-#[derive(Clone, Copy)]
+#[derive(Clone, Copy, Debug, PartialEq, Eq)]
 pub struct EffectVar(pub u16);
 
-#[derive(Clone, Copy)]
+#[derive(Clone, Copy, Debug, PartialEq, Eq)]
 pub struct RelationId(pub u16);
 
-#[derive(Clone, Copy)]
+#[derive(Clone, Copy, Debug, PartialEq, Eq)]
 pub struct TypeIdx(pub u16);
 
-#[derive(Clone, Copy)]
+#[derive(Clone, Copy, Debug, PartialEq, Eq)]
 pub struct Span(pub u32);
 
 // A type's number, with bit 15 for the inverse.
-#[derive(Clone, Copy)]
+#[derive(Clone, Copy, Debug, PartialEq, Eq)]
 pub struct Type(pub u16);
 
 impl LayerId {
-    pub const NONE: LayerId = LayerId(65535);
+    pub const NONE: LayerId = LayerId(NONE);
 
     // The layer that a step names in 32 bits; NONE where no layer can have that number.
     pub fn from_target(a: u32) -> LayerId
         ensures { result ≡ layer_id_of a }
     {
-        if a < 65535 {
-            LayerId(a as u16)
-        } else {
-            LayerId::NONE
-        }
+        LayerId(u16::try_from(a).unwrap_or(NONE))
     }
+}
+
+impl InterfaceId {
+    pub const NONE: InterfaceId = InterfaceId(NONE);
 }
 
 impl EffectVar {

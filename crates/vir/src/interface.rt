@@ -1,9 +1,10 @@
-ghost use Rattle.std.specs.Prelude.{◌≡◌};
+ghost use Rattle.std.specs.Prelude.{◌≡◌, ok_or};
 ghost use Rattle.vir.specs.Interface.{kind_of, entries_of};
 
 use crate::arity::Arity;
+use crate::unknown::Unknown;
 
-#[derive(Clone, Copy)]
+#[derive(Clone, Copy, Debug, PartialEq, Eq)]
 pub enum InterfaceKind {
     Unconditional,
     Branch,
@@ -12,26 +13,24 @@ pub enum InterfaceKind {
     Inspect,
 }
 
-#[derive(Clone, Copy)]
-pub enum FoundKind {
-    Kind(InterfaceKind),
-    Nothing,
+impl TryFrom<u8> for InterfaceKind {
+    type Error = Unknown;
+
+    ghost try_from_gives = { λ n r. r ≡ ok_or (kind_of n) (record { 0 = n }) };
+
+    fn try_from(n: u8) -> Result<InterfaceKind, Unknown> {
+        match n {
+            0 => Ok(InterfaceKind::Unconditional),
+            1 => Ok(InterfaceKind::Branch),
+            2 => Ok(InterfaceKind::Match),
+            3 => Ok(InterfaceKind::Closure),
+            4 => Ok(InterfaceKind::Inspect),
+            _ => Err(Unknown(n)),
+        }
+    }
 }
 
 impl InterfaceKind {
-    pub fn from_number(n: u8) -> FoundKind
-        ensures { result ≡ kind_of n }
-    {
-        match n {
-            0 => FoundKind::Kind(InterfaceKind::Unconditional),
-            1 => FoundKind::Kind(InterfaceKind::Branch),
-            2 => FoundKind::Kind(InterfaceKind::Match),
-            3 => FoundKind::Kind(InterfaceKind::Closure),
-            4 => FoundKind::Kind(InterfaceKind::Inspect),
-            _ => FoundKind::Nothing,
-        }
-    }
-
     // How many stages, or locals, it lists.
     pub fn entries(self) -> Arity
         ensures { result ≡ entries_of self }

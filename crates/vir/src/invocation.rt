@@ -4,7 +4,7 @@ ghost use Rattle.vir.specs.Invocation.{invocation_effect, invocation_ports};
 use crate::arity::Arity;
 use effect::Effect;
 
-#[derive(Clone, Copy)]
+#[derive(Clone, Copy, Debug, PartialEq, Eq)]
 pub enum Invocation {
     Barrier,
     Read,

@@ -10,3 +10,4 @@ pub mod interface;
 pub mod invocation;
 pub mod port;
 pub mod step;
+pub mod unknown;

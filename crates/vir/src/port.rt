@@ -4,7 +4,7 @@ ghost use Rattle.vir.specs.Port.{port_of};
 use crate::ids::{Span, WireId};
 
 // What stands at a port. All but a wire carry a number that nothing here reads.
-#[derive(Clone, Copy)]
+#[derive(Clone, Copy, Debug, PartialEq, Eq)]
 pub enum PortKind {
     Nil(u32),
     Bool(u32),
@@ -16,26 +16,20 @@ pub enum PortKind {
     Error(u32),
 }
 
-#[derive(Clone, Copy)]
-pub enum FoundPort {
-    Port(PortKind),
-    Nothing,
-}
-
 impl PortKind {
-    pub fn from_fields(kind: u8, a: u32, b: u16) -> FoundPort
+    pub fn from_fields(kind: u8, a: u32, b: u16) -> Option<PortKind>
         ensures { result ≡ port_of kind a b }
     {
         match kind {
-            0 => FoundPort::Port(PortKind::Nil(a)),
-            1 => FoundPort::Port(PortKind::Bool(a)),
-            2 => FoundPort::Port(PortKind::N32(a)),
-            3 => FoundPort::Port(PortKind::F32(a)),
-            4 => FoundPort::Port(PortKind::F64(a)),
-            5 => FoundPort::Port(PortKind::Nat(a)),
-            6 => FoundPort::Port(PortKind::Wire(Span(a), WireId(b))),
-            7 => FoundPort::Port(PortKind::Error(a)),
-            _ => FoundPort::Nothing,
+            0 => Some(PortKind::Nil(a)),
+            1 => Some(PortKind::Bool(a)),
+            2 => Some(PortKind::N32(a)),
+            3 => Some(PortKind::F32(a)),
+            4 => Some(PortKind::F64(a)),
+            5 => Some(PortKind::Nat(a)),
+            6 => Some(PortKind::Wire(Span(a), WireId(b))),
+            7 => Some(PortKind::Error(a)),
+            _ => None,
         }
     }
 }

@@ -1,4 +1,5 @@
 -- What check answers of a well-formed value's bytes.
+use Rattle.std.specs.Prelude.{Ok}
 use mathlib.Core.Path.{◌≡◌, ◌∙◌, refl, sym, ap}
 use mathlib.Core.Bool.{true, ◌&&◌}
 use mathlib.Core.List.{List, ◌++◌}
@@ -9,7 +10,6 @@ use lib.ListN.{length, length-append}
 use borrow.Author.Tests.{eq-eqb}
 use Rattle.records.specs.declared.layout.Counts.{Counts}
 use Rattle.records.specs.declared.running.Running.{Running}
-use Rattle.records.specs.declared.running.Walked.TheVariants.{Clean}
 use Rattle.records.specs.Bytes.{u16_at}
 use Rattle.judging.specs.Judge.{walk_all}
 use Rattle.records.specs.Layout.{counts_of, within, length_of, sections, layers_at, interfaces_at, stages_at, locals_at, types_at, steps_at, ports_at, Sized}
@@ -49,7 +49,7 @@ module _ (v : Vir) (w : WellFormed v) where
   ports-sum : end_stages + length (concat (λ a. a.ports) (all_actions v)) ≡ c.ports
   ports-sum = sym (length-append (stage_ports v) (concat (λ a. a.ports) (all_actions v)))
 
-  clean : Clean (at c.refs c.steps c.ports) ≡ walk_all s c sections (at 0 0 0)
+  clean : Ok (at c.refs c.steps c.ports) ≡ walk_all s c sections (at 0 0 0)
   clean =
       let z : Sized s c = fitting v w in
       let behind : Running = at c.refs c.steps end_stages in

@@ -1,4 +1,5 @@
 -- No record that is written from what fits is at fault: the walk over each section, and where its lists end.
+use Rattle.std.specs.Prelude.{None, Ok, Option, Result, Some}
 use mathlib.Core.Path.{◌≡◌, ◌∙◌, refl, ap}
 use mathlib.Core.Bool.{Bool as Truth, true, cond}
 use mathlib.Core.List.{List, [], ◌∷◌, ◌++◌}
@@ -9,10 +10,6 @@ use Rattle.records.specs.declared.layout.Counts.{Counts}
 use Rattle.records.specs.declared.layout.Section.{Section}
 use Rattle.records.specs.declared.layout.Section.TheVariants.{Layers, Interfaces, Stages, Locals, Types, Steps, Ports}
 use Rattle.records.specs.declared.running.Running.{Running}
-use Rattle.records.specs.declared.running.Judged.{Judged}
-use Rattle.records.specs.declared.running.Judged.TheVariants.{Fault, Next}
-use Rattle.records.specs.declared.running.Walked.{Walked}
-use Rattle.records.specs.declared.running.Walked.TheVariants.{Clean}
 use Rattle.records.specs.Bytes.{u8_at}
 use Rattle.judging.specs.Judge.{judge_layer, judge_interface, judge_stage, judge_local, judge_type, judge_step, judge_port, judge, after, walk}
 use Rattle.records.specs.Layout.{size_of}
@@ -26,25 +23,26 @@ use Rattle.image.proofs.Standing.{stands_left, stands_right, stands_past}
 use Rattle.image.proofs.Written.{layer-written, interface-written, stage-written, local-written, type-written, step-written, port_written}
 use Rattle.wellformed.specs.WellFormed.{layer_fits, interface_fits, stage_fits, local_fits, action_fits, port_fits, flex_fits}
 use Rattle.wellformed.proofs.Good.{layer_good_lem, interface_good_lem, stage_good_lem, local_good_lem, step_good_lem, port_good_lem}
+use Rattle.records.specs.declared.running.Fault.{Fault}
 
 -- running places
 abbrev pub at : ℕ → ℕ → ℕ → Running
 at refs steps ports = record { refs = refs; steps = steps; ports = ports }
 
 -- a record that is good, and the walk behind it
-walk-on : (f : ℕ → Running → Judged) (size n p : ℕ) (r r' : Running) {w : Walked} → f p r ≡ Next r' → walk f size n (p + size) r' ≡ w
+walk-on : (f : ℕ → Running → Option Running) (size n p : ℕ) (r r' : Running) {w : (Result Running Fault)} → f p r ≡ Some r' → walk f size n (p + size) r' ≡ w
     → walk f size (suc n) p r ≡ w
 unfolding walk
-walk-on f size n p r r' e rest = ap (λ (j : Judged). after p j (λ q. walk f size n (p + size) q)) e ∙ rest
+walk-on f size n p r r' e rest = ap (λ (j : Option Running). after p j (λ q. walk f size n (p + size) q)) e ∙ rest
 
-passes : {good : Truth} (next : Running) → good ≡ true → cond good (Next next) Fault ≡ Next next
-passes next h = ap (λ (b : Truth). cond b (Next next) Fault) h
+passes : {good : Truth} (next : Running) → good ≡ true → cond good (Some next) None ≡ Some next
+passes next h = ap (λ (b : Truth). cond b (Some next) None) h
 
 module _ (s : List ℕ) (c : Counts) where
   -- records that lay nothing
   still : {A : Type 0} (x : Section) (g : A → List ℕ) (f : A → Truth) (r : Running) → ((y : A) → length (g y) ≡ size_of x)
-      → ((p : ℕ) (y : A) → Stands (u8_at s) p (g y) → f y ≡ true → judge x s c p r ≡ Next r)
-      → (p : ℕ) (l : List A) → Stands (u8_at s) p (concat g l) → all f l ≡ true → walk (judge x s c) (size_of x) (length l) p r ≡ Clean r
+      → ((p : ℕ) (y : A) → Stands (u8_at s) p (g y) → f y ≡ true → judge x s c p r ≡ Some r)
+      → (p : ℕ) (l : List A) → Stands (u8_at s) p (concat g l) → all f l ≡ true → walk (judge x s c) (size_of x) (length l) p r ≡ Ok r
   unfolding walk concat all
   still x g f r size one p [] st fits = refl
   still x g f r size one p (y ∷ l) st fits =
@@ -53,17 +51,17 @@ module _ (s : List ℕ) (c : Counts) where
       (still x g f r size one (p + size_of x) l (stands_right (g y) (concat g l) st (ap (λ (n : ℕ). p + n) (size y))) (right_true (f y) (all f l) fits))
 
   pub locals-clean : (r : Running) (p : ℕ) (l : List Local) → Stands (u8_at s) p (concat local_bytes l) → all (local_fits c) l ≡ true
-      → walk (judge Locals s c) 7 (length l) p r ≡ Clean r
+      → walk (judge Locals s c) 7 (length l) p r ≡ Ok r
   locals-clean r =
       still Locals local_bytes (local_fits c) r (λ y. refl)
       (λ p y x h. ap (judge_local c r) (local-written s p y x) ∙ passes r (local_good_lem c y h))
 
   pub types-clean : (r : Running) (p : ℕ) (l : List Flex) → Stands (u8_at s) p (concat flex_bytes l) → all flex_fits l ≡ true
-      → walk (judge Types s c) 2 (length l) p r ≡ Clean r
+      → walk (judge Types s c) 2 (length l) p r ≡ Ok r
   types-clean r = still Types flex_bytes flex_fits r (λ y. refl) (λ p y x h. ap (judge_type r) (type-written s p y x) ∙ passes r h)
 
   pub ports-clean : (r : Running) (p : ℕ) (l : List Port) → Stands (u8_at s) p (concat port_bytes l) → all (port_fits c) l ≡ true
-      → walk (judge Ports s c) 9 (length l) p r ≡ Clean r
+      → walk (judge Ports s c) 9 (length l) p r ≡ Ok r
   ports-clean r =
       still Ports port_bytes (port_fits c) r (λ y. refl)
       (λ p y x h. ap (judge_port c r) (port_written s p y x) ∙ passes r (port_good_lem c y h))
@@ -72,9 +70,9 @@ module _ (s : List ℕ) (c : Counts) where
   module _ (end : ℕ) (room : end ≤ c.refs) where
     pub layers-clean : (p refs : ℕ) (l : List Layer) → Stands (u8_at s) p (layers_bytes refs l)
         → Stands (nth_ref s c) refs (concat (λ y. y.stages) l) → all (layer_fits c) l ≡ true → refs + length (concat (λ y. y.stages) l) ≡ end
-        → walk (judge Layers s c) 6 (length l) p (at refs 0 0) ≡ Clean (at end 0 0)
+        → walk (judge Layers s c) 6 (length l) p (at refs 0 0) ≡ Ok (at end 0 0)
     unfolding walk layers_bytes concat all
-    layers-clean p refs [] x r fits e = ap (λ (n : ℕ). Clean (at n 0 0)) (omega arith)
+    layers-clean p refs [] x r fits e = ap (λ (n : ℕ). Ok (at n 0 0)) (omega arith)
     layers-clean p refs (y ∷ l) x r fits e =
         let more : List ℕ = concat (λ y. y.stages) l in
         let sum : length (y.stages ++ more) ≡ length y.stages + length more = length-append y.stages more in
@@ -88,9 +86,9 @@ module _ (s : List ℕ) (c : Counts) where
 
     pub interfaces-clean : (p refs : ℕ) (l : List Interface) → Stands (u8_at s) p (interfaces_bytes refs l)
         → Stands (nth_ref s c) refs (concat (λ y. y.list) l) → all (interface_fits c) l ≡ true → refs + length (concat (λ y. y.list) l) ≡ end
-        → walk (judge Interfaces s c) 9 (length l) p (at refs 0 0) ≡ Clean (at end 0 0)
+        → walk (judge Interfaces s c) 9 (length l) p (at refs 0 0) ≡ Ok (at end 0 0)
     unfolding walk interfaces_bytes concat all
-    interfaces-clean p refs [] x r fits e = ap (λ (n : ℕ). Clean (at n 0 0)) (omega arith)
+    interfaces-clean p refs [] x r fits e = ap (λ (n : ℕ). Ok (at n 0 0)) (omega arith)
     interfaces-clean p refs (y ∷ l) x r fits e =
         let more : List ℕ = concat (λ y. y.list) l in
         let sum : length (y.list ++ more) ≡ length y.list + length more = length-append y.list more in
@@ -108,13 +106,13 @@ module _ (s : List ℕ) (c : Counts) where
         → Stands (nth_ref s c) refs (concat (λ y. y.declarations) l) → all (stage_fits c) l ≡ true
         → refs + length (concat (λ y. y.declarations) l) ≡ end-refs → steps + length (concat (λ y. y.steps) l) ≡ end-steps
         → ports + length (concat (λ y. y.ports ++ y.payload) l) ≡ end-ports
-        → walk (judge Stages s c) 30 (length l) p (at refs steps ports) ≡ Clean (at end-refs end-steps end-ports)
+        → walk (judge Stages s c) 30 (length l) p (at refs steps ports) ≡ Ok (at end-refs end-steps end-ports)
     unfolding walk stages_bytes concat all
     stages-clean p refs steps ports [] x r fits e d f =
         let refs_end : refs ≡ end-refs = omega arith in
         let steps_end : steps ≡ end-steps = omega arith in
         let ports_end : ports ≡ end-ports = omega arith in
-        λ i. Clean (at (refs_end i) (steps_end i) (ports_end i))
+        λ i. Ok (at (refs_end i) (steps_end i) (ports_end i))
     stages-clean p refs steps ports (y ∷ l) x r fits e d f =
         let more-refs : List ℕ = concat (λ y. y.declarations) l in
         let more-steps : List Action = concat (λ y. y.steps) l in
@@ -139,9 +137,9 @@ module _ (s : List ℕ) (c : Counts) where
   module _ (few : c.layers ≤ 64) (few-interfaces : c.interfaces ≤ 256) (refs steps end : ℕ) (room : end ≤ c.ports) where
     pub steps-clean : (p ports : ℕ) (l : List Action) → Stands (u8_at s) p (actions_bytes ports l) → all (action_fits c) l ≡ true
         → ports + length (concat (λ y. y.ports) l) ≡ end
-        → walk (judge Steps s c) 11 (length l) p (at refs steps ports) ≡ Clean (at refs steps end)
+        → walk (judge Steps s c) 11 (length l) p (at refs steps ports) ≡ Ok (at refs steps end)
     unfolding walk actions_bytes concat all
-    steps-clean p ports [] x fits e = ap (λ (n : ℕ). Clean (at refs steps n)) (omega arith)
+    steps-clean p ports [] x fits e = ap (λ (n : ℕ). Ok (at refs steps n)) (omega arith)
     steps-clean p ports (y ∷ l) x fits e =
         let more : List Port = concat (λ y. y.ports) l in
         let sum : length (y.ports ++ more) ≡ length y.ports + length more = length-append y.ports more in

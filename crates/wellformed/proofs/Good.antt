@@ -1,4 +1,5 @@
 -- A record that is written from what fits is good.
+use Rattle.std.specs.Prelude.{None, Option, Some}
 use mathlib.Core.Path.{◌≡◌, ◌∙◌, refl, ap}
 use mathlib.Core.Bool.{Bool as Truth, true, not, ◌&&◌, ◌||◌, or-true}
 use mathlib.Core.List.{List}
@@ -6,14 +7,9 @@ use Prim.Native.Nat.{ℕ, ◌+◌, ◌≤◌}
 use lib.Dec.{eqb, ltb, leb}
 use lib.ListN.{length}
 use borrow.Author.Tests.{eq-eqb, le-leb}
-use Rattle.vir.specs.declared.header.FoundHeader.{FoundHeader}
-use Rattle.vir.specs.declared.interface.FoundKind.{FoundKind}
 use Rattle.vir.specs.declared.invocation.Invocation.TheVariants.{Barrier, Read, Write, ReadBarrier, BarrierWrite, ReadWrite}
 use Rattle.vir.specs.declared.port.PortKind.{PortKind}
 use Rattle.vir.specs.declared.port.PortKind.TheVariants.{Nil, Bool, N32, F32, F64, Nat, Wire, Error}
-use Rattle.vir.specs.declared.step.FoundStep.{FoundStep}
-use Rattle.vir.specs.declared.step.Onward.{Onward}
-use Rattle.vir.specs.declared.step.Onward.TheVariants.{To, Nowhere}
 use Rattle.vir.specs.declared.step.Step.{Step}
 use Rattle.vir.specs.declared.step.Step.TheVariants.{Invoke, Transfer, Diverge, Link, Call, Const, Composite, Rewrap, Enum, Union, Ref, List as Listing, String, InlineIvy, BoolNot, BoolAnd}
 use Rattle.vir.specs.Arity.{allows}
@@ -38,6 +34,9 @@ use Rattle.image.proofs.Written.{layer_record, interface_record, stage_record, l
 use Rattle.wellformed.specs.WellFormed.{u16_fits, u32_fits, layer_fits, entries_fit, interface_fits, stage_fits, local_fits, onward_fits, step_fits, action_fits, port_kind_fits, port_fits}
 use Rattle.wellformed.proofs.Entries.{refs_same, entries_same}
 use Rattle.wellformed.proofs.Plain.{plain_step_lem}
+use Rattle.vir.specs.declared.ids.InterfaceId.{InterfaceId}
+use Rattle.vir.specs.declared.interface.InterfaceKind.{InterfaceKind}
+use Rattle.vir.specs.declared.header.Header.{Header}
 
 -- a list that starts at the running place
 laid_here : (running total count : ℕ) → running + count ≤ total → laid running total (record { first = running; count = count }) ≡ true
@@ -74,7 +73,7 @@ module _ (s : List ℕ) (c : Counts) where
         let four : (layer && long && small && key) ≡ true = left_true (layer && long && small && key) entries fits in
         let three : (layer && long && small) ≡ true = left_true (layer && long && small) key four in
         let allowed : long ≡ true = right_true layer long (left_true (layer && long) small three) in
-        let lists = ap (λ (f : FoundKind). kind_lists f n) (kind_found_lem y.kind) ∙ allowed in
+        let lists = ap (λ (f : Option InterfaceKind). kind_lists f n) (kind_found_lem y.kind) ∙ allowed in
         let keyed = right_true (layer && long && small) key four in
         let lies = laid_here r.refs c.refs n room in
         let named =
@@ -110,7 +109,7 @@ module _ (s : List ℕ) (c : Counts) where
         let owner : t2 ≡ true = right_true t1 t2 (left_true (t1 && t2) t3 to3) in
         let layer : t3 ≡ true = right_true (t1 && t2) t3 to3 in
         let header =
-        ap (λ (f : FoundHeader). header_has f (length y.ports)) (header_found y.header) ∙ right_true (t1 && t2 && t3) t4 to4 in
+        ap (λ (f : Option Header). header_has f (length y.ports)) (header_found y.header) ∙ right_true (t1 && t2 && t3) t4 to4 in
         let transfer : t8 ≡ true = right_true (t1 && t2 && t3 && t4 && t5 && t6 && t7) t8 to8 in
         let few : t9 ≡ true = right_true (t1 && t2 && t3 && t4 && t5 && t6 && t7 && t8) t9 to9 in
         let some : t10 ≡ true = right_true (t1 && t2 && t3 && t4 && t5 && t6 && t7 && t8 && t9) t10 fits in
@@ -153,9 +152,9 @@ port_good_lem c y fits =
     λ i. named i && fields.0 i && fields.1 i
 
 module _ (c : Counts) (run : Run) where
-  onward-named : (o : Onward) → onward_fits c o ≡ true → or_none c.interfaces (onward_b o) ≡ true
-  onward-named (To t) h = ap (λ (b : Truth). eqb t.0 none || b) h ∙ or-true (eqb t.0 none)
-  onward-named Nowhere h = refl
+  onward-named : (o : Option InterfaceId) → onward_fits c o ≡ true → or_none c.interfaces (onward_b o) ≡ true
+  onward-named (Some t) h = ap (λ (b : Truth). eqb t.0 none || b) h ∙ or-true (eqb t.0 none)
+  onward-named None h = refl
 
   step_names : (t : Step) → step_fits c t ≡ true → step_named c (record { tag = step_tag t; a = step_a t; b = step_b t; ports = run }) ≡ true
   step_names (Invoke span l Barrier) h = right_true (u32_fits span.0) (ltb l.0 c.locals) h
@@ -190,7 +189,7 @@ step_good_lem c r few few-interfaces y fits room =
     let long : Truth = allows (step_ports y.step) n in
     let fields : step_fits c y.step ≡ true = right_true long (step_fits c y.step) fits in
     let found = step_found y.step (plain_step_lem c few few-interfaces y.step fields) in
-    let has = ap (λ (f : FoundStep). step_has f n) found ∙ left_true long (step_fits c y.step) fits in
+    let has = ap (λ (f : Option Step). step_has f n) found ∙ left_true long (step_fits c y.step) fits in
     let named = step_names c (record { first = r.ports; count = n }) y.step fields in
     let lies = laid_here r.ports c.ports n room in
     λ i. has i && named i && lies i

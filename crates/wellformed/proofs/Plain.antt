@@ -1,4 +1,5 @@
 -- A well-formed value is read back from its bytes: a Diverge names a layer, and an interface that is not none.
+use Rattle.std.specs.Prelude.{None, Option, Some}
 use mathlib.Core.Path.{◌≡◌, refl}
 use mathlib.Core.Bool.{Bool as Truth, true, not, ◌&&◌}
 use mathlib.Core.List.{List, [], ◌∷◌}
@@ -7,8 +8,6 @@ use native.Mathlib.Omega.{arith}
 use lib.Dec.{ltb}
 use lib.ListN.{length}
 use borrow.Author.Tests.{ltb-true, le-leb, ne_eqb}
-use Rattle.vir.specs.declared.step.Onward.{Onward}
-use Rattle.vir.specs.declared.step.Onward.TheVariants.{To, Nowhere}
 use Rattle.vir.specs.declared.step.Step.{Step}
 use Rattle.vir.specs.declared.step.Step.TheVariants.{Invoke, Transfer, Diverge, Link, Call, Const, Composite, Rewrap, Enum, Union, Ref, List as Listing, String, InlineIvy, BoolNot, BoolAnd}
 use Rattle.vir.specs.Arity.{allows}
@@ -23,6 +22,7 @@ use Rattle.image.specs.Vir.{Vir}
 use Rattle.image.proofs.Answering.{within-sized}
 use Rattle.image.proofs.Reading.{encode-length}
 use Rattle.wellformed.specs.WellFormed.{onward_fits, step_fits, action_fits, WellFormed}
+use Rattle.vir.specs.declared.ids.InterfaceId.{InterfaceId}
 
 -- its bytes are as many as its counts say, which are within their maxima
 pub fitting : (v : Vir) → WellFormed v → Sized (encode v) (counts_of_vir v)
@@ -37,12 +37,12 @@ all_map f g on (x ∷ l) h =
     λ i. first i && rest i
 
 module _ (c : Counts) (few : c.layers ≤ 64) (few-interfaces : c.interfaces ≤ 256) where
-  plain_onward_lem : (o : Onward) → onward_fits c o ≡ true → plain_onward o ≡ true
-  plain_onward_lem (To t) h =
+  plain_onward_lem : (o : Option InterfaceId) → onward_fits c o ≡ true → plain_onward o ≡ true
+  plain_onward_lem (Some t) h =
       let below : t.0 < c.interfaces = ltb-true t.0 c.interfaces h in
       let some = ne_eqb t.0 none (λ e. omega arith) in
       λ i. not (some i)
-  plain_onward_lem Nowhere h = refl
+  plain_onward_lem None h = refl
 
   pub plain_step_lem : (t : Step) → step_fits c t ≡ true → plain_step t ≡ true
   plain_step_lem (Invoke span l t) h = refl

@@ -1,4 +1,5 @@
 -- What an image that check takes has passed.
+use Rattle.std.specs.Prelude.{Err, Ok, Result}
 use mathlib.Core.Path.{◌≡◌, ◌∙◌, refl, ap}
 use mathlib.Core.Bool.{Bool, true, false}
 use mathlib.Core.List.{List}
@@ -9,21 +10,20 @@ use lib.ListN.{length}
 use borrow.Author.Tests.{eqb-true}
 use Rattle.records.specs.declared.layout.Counts.{Counts}
 use Rattle.records.specs.declared.running.Running.{Running}
-use Rattle.records.specs.declared.running.Walked.{Walked}
-use Rattle.records.specs.declared.running.Walked.TheVariants.{At, Clean}
 use Rattle.judging.specs.Judge.{walk_all}
 use Rattle.records.specs.Layout.{counts_of, within, length_of, sections}
 use Rattle.image.specs.declared.answer.Answer.{Answer}
 use Rattle.image.specs.Check.{marked, owned, kind_answer, record_answer, check_of}
 use Rattle.image.specs.View.{view_of}
 use Rattle.image.proofs.Answering.{by_owner, by_header, by_tests, records}
+use Rattle.records.specs.declared.running.Fault.{Fault}
 
 pub record Taken (s : List ℕ) : Type 0 where
   pub mark : marked s ≡ true
   pub counted : within (counts_of s) ≡ true
   pub long : length s ≡ length_of (counts_of s)
   pub last : Running
-  pub clean : walk_all s (counts_of s) sections (record { refs = 0; steps = 0; ports = 0 }) ≡ Clean last
+  pub clean : walk_all s (counts_of s) sections (record { refs = 0; steps = 0; ports = 0 }) ≡ Ok last
   pub own : owned (counts_of s) last ≡ true
 
 -- only the last of the header's answers can have code 0
@@ -35,14 +35,14 @@ past_header false true false long a h = absurd (omega arith)
 past_header false true true false a h = absurd (omega arith)
 past_header false true true true a h = (refl, refl, refl, h)
 
-record Ended (c : Counts) (w : Walked) : Type 0 where
+record Ended (c : Counts) (w : Result Running Fault) : Type 0 where
   last : Running
-  clean : w ≡ Clean last
+  clean : w ≡ Ok last
   own : owned c last ≡ true
 
-past_records : (s : List ℕ) (c : Counts) (w : Walked) → (record_answer s c w).code ≡ 0 → Ended c w
-past_records s c (At p) h = absurd (omega arith)
-past_records s c (Clean r) h = record { last = r; clean = refl; own = go (owned c r) h }
+past_records : (s : List ℕ) (c : Counts) (w : Result Running Fault) → (record_answer s c w).code ≡ 0 → Ended c w
+past_records s c (Err p) h = absurd (omega arith)
+past_records s c (Ok r) h = record { last = r; clean = refl; own = go (owned c r) h }
   where
     go : (b : Bool) → (by_owner b (length s) (kind_answer (view_of s c))).code ≡ 0 → b ≡ true
     go true e = refl

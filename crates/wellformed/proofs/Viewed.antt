@@ -1,4 +1,5 @@
 -- An accepted image is read as a well-formed value.
+use Rattle.std.specs.Prelude.{None, Ok, Option, Some}
 use mathlib.Core.Path.{◌≡◌, ◌∙◌, refl, sym, ap, subst}
 use mathlib.Core.Bool.{Bool as Truth, true, false, not, cond, ◌&&◌, ◌||◌, true≢false}
 use mathlib.Core.List.{List}
@@ -9,16 +10,7 @@ use native.Mathlib.Omega.{arith}
 use lib.Dec.{eqb, ltb, leb}
 use lib.ListN.{length}
 use borrow.Author.Tests.{ltb-true, lt-ltb}
-use Rattle.vir.specs.declared.header.FoundHeader.{FoundHeader}
-use Rattle.vir.specs.declared.header.FoundHeader.TheVariants.{Header as AHeader, Nothing as NoHeader}
-use Rattle.vir.specs.declared.interface.FoundKind.{FoundKind}
-use Rattle.vir.specs.declared.interface.FoundKind.TheVariants.{Kind, Nothing as NoKind}
 use Rattle.vir.specs.declared.interface.InterfaceKind.{InterfaceKind}
-use Rattle.vir.specs.declared.port.FoundPort.{FoundPort}
-use Rattle.vir.specs.declared.port.FoundPort.TheVariants.{Nothing as NoPort}
-use Rattle.vir.specs.declared.step.FoundStep.{FoundStep}
-use Rattle.vir.specs.declared.step.FoundStep.TheVariants.{Step as AStep, Nothing as NoStep}
-use Rattle.vir.specs.declared.step.Onward.TheVariants.{To, Nowhere}
 use Rattle.vir.specs.Arity.{allows}
 use Rattle.vir.specs.Header.{header_of, header_ports}
 use Rattle.vir.specs.Ids.{none}
@@ -34,12 +26,10 @@ use Rattle.records.specs.declared.record.LayerRecord.{LayerRecord}
 use Rattle.records.specs.declared.record.StageRecord.{StageRecord}
 use Rattle.records.specs.declared.record.StepRecord.{StepRecord}
 use Rattle.records.specs.declared.running.Running.{Running}
-use Rattle.records.specs.declared.running.Judged.TheVariants.{Next}
-use Rattle.records.specs.declared.running.Walked.TheVariants.{Clean}
 use Rattle.records.specs.Bytes.{Bytes, u16_at, u32_at}
 use Rattle.rules.specs.Faults.{or_none, type_named, laid, refs_below, layer_fields, layer_good, kind_lists, entries_named, interface_fields, interface_good, header_has, transfer_good, stage_named, stage_lists, stage_fields, stage_good, local_good, step_has, step_named, step_good, port_good}
 use Rattle.judging.specs.Judge.{judge, walk_section}
-use Rattle.records.specs.Layout.{counts_of, count_of, within, Sized}
+use Rattle.records.specs.Layout.{counts_of, count_of, within, Sized, place_of}
 use Rattle.records.specs.Records.{layer_at, interface_at, stage_at, local_at, step_at, port_at}
 use Rattle.records.proofs.Guards.{left_true, right_true}
 use Rattle.image.specs.Check.{check_of}
@@ -47,7 +37,7 @@ use Rattle.image.specs.Encode.{counts_of_vir, all_actions, all_ports}
 use Rattle.image.specs.Kind.{all}
 use Rattle.image.specs.View.{collect, header_in, kind_in, port_in, step_in, layer_of_record, interface_of_record, stage_of_record, action_of_record, view_of, view}
 use Rattle.image.proofs.Answering.{within-sized}
-use Rattle.image.proofs.Clean.{place_of, along_section, passed, Through, through}
+use Rattle.image.proofs.Clean.{along_section, passed, Through, through}
 use Rattle.image.proofs.Gathered.{nth_ref, nth_port, nth_action, nth_flex, nth_local, nth_stage, nth_interface, nth_layer}
 use Rattle.image.proofs.Numbers.{half-below}
 use Rattle.image.proofs.Reading.{counts-read}
@@ -57,28 +47,31 @@ use Rattle.image.proofs.Viewing.{length-collect}
 use Rattle.wellformed.specs.WellFormed.{u16_fits, u32_fits, layer_fits, interface_fits, stage_fits, local_fits, onward_fits, step_fits, action_fits, port_kind_fits, port_fits, flex_fits, WellFormed}
 use Rattle.wellformed.proofs.Entries.{refs_same, entries_same}
 use Rattle.wellformed.proofs.Taken.{taken}
+use Rattle.vir.specs.declared.port.PortKind.{PortKind}
+use Rattle.vir.specs.declared.header.Header.{Header}
+use Rattle.vir.specs.declared.step.Step.{Step}
 
 -- a test that each record of a section that is clean passes
 all-along : {A : Type 0} (s : List ℕ) (c : Counts) (x : Section) (f : A → Truth) (g : ℕ → A) (r q : Running)
-    → ((i : ℕ) (r r' : Running) → judge x s c (place_of c x i) r ≡ Next r' → f (g i) ≡ true)
-    → walk_section s c x r ≡ Clean q → all f (collect g 0 (count_of c x)) ≡ true
+    → ((i : ℕ) (r r' : Running) → judge x s c (place_of c x i) r ≡ Some r' → f (g i) ≡ true)
+    → walk_section s c x r ≡ Ok q → all f (collect g 0 (count_of c x)) ≡ true
 unfolding all collect
 all-along s c x f g r q one =
     along_section s c x q (count_of c x) (λ i n r. all f (collect g i n) ≡ true)
     (λ i e. refl) (λ i n r r' j rest i'. one i r r' j i' && rest i') r refl
 
 -- what is found has the number of entries or ports that the test lets it have
-kind_lists_lem : (f : FoundKind) (n : ℕ) → kind_lists f n ≡ true → allows (entries_of (kind_in f)) n ≡ true
-kind_lists_lem (Kind k) n h = h
-kind_lists_lem NoKind n h = absurd (true≢false (sym h))
+kind_lists_lem : (f : Option InterfaceKind) (n : ℕ) → kind_lists f n ≡ true → allows (entries_of (kind_in f)) n ≡ true
+kind_lists_lem (Some k) n h = h
+kind_lists_lem None n h = absurd (true≢false (sym h))
 
-header_has_lem : (f : FoundHeader) (n : ℕ) → header_has f n ≡ true → allows (header_ports (header_in f)) n ≡ true
-header_has_lem (AHeader k) n h = h
-header_has_lem NoHeader n h = absurd (true≢false (sym h))
+header_has_lem : (f : Option Header) (n : ℕ) → header_has f n ≡ true → allows (header_ports (header_in f)) n ≡ true
+header_has_lem (Some k) n h = h
+header_has_lem None n h = absurd (true≢false (sym h))
 
-step_has_lem : (f : FoundStep) (n : ℕ) → step_has f n ≡ true → allows (step_ports (step_in f)) n ≡ true
-step_has_lem (AStep k) n h = h
-step_has_lem NoStep n h = absurd (true≢false (sym h))
+step_has_lem : (f : Option Step) (n : ℕ) → step_has f n ≡ true → allows (step_ports (step_in f)) n ≡ true
+step_has_lem (Some k) n h = h
+step_has_lem None n h = absurd (true≢false (sym h))
 
 module _ (s : List ℕ) (c : Counts) where
   layer_fits_lem : (r : Running) (l : LayerRecord) → layer_good s c r l ≡ true → layer_fits c (layer_of_record s c l) ≡ true
@@ -136,7 +129,7 @@ module _ (s : List ℕ) (c : Counts) where
 
 module _ (c : Counts) (few : c.layers ≤ 64) (a b : ℕ) (small : u32_fits a ≡ true) (run : Run) where
   -- a step that was read from a tag and fields that name what is there
-  abbrev Read : ℕ → FoundStep → Type 0
+  abbrev Read : ℕ → Option Step → Type 0
   Read n x = step_named c (record { tag = n; a = a; b = b; ports = run }) ≡ true → step_fits c (step_in x) ≡ true
 
   invoked : ltb b c.locals ≡ true → (u32_fits a && ltb b c.locals) ≡ true
@@ -148,7 +141,7 @@ module _ (c : Counts) (few : c.layers ≤ 64) (a b : ℕ) (small : u32_fits a �
   onward-fits : or_none c.interfaces b ≡ true → onward_fits c (onward_of b) ≡ true
   onward-fits h = go (eqb b none) h
     where
-      go : (t : Truth) → (t || ltb b c.interfaces) ≡ true → onward_fits c (cond t Nowhere (To (record { 0 = b }))) ≡ true
+      go : (t : Truth) → (t || ltb b c.interfaces) ≡ true → onward_fits c (cond t None (Some (record { 0 = b }))) ≡ true
       go true h = refl
       go false h = h
 
@@ -168,7 +161,7 @@ module _ (c : Counts) (few : c.layers ≤ 64) (a b : ℕ) (small : u32_fits a �
   unfolding step_of
   step_fits_lem n =
       subst (λ (k : ℕ). Read k (step_of n a b)) (zero-add n)
-      (each_at Read 0 (steps a b) NoStep
+      (each_at Read 0 (steps a b) None
       (invoked ▸ invoked ▸ invoked ▸ invoked ▸ invoked ▸ invoked ▸ transferred ▸ diverged
       ▸ keyed ▸ keyed ▸ keyed ▸ keyed ▸ keyed ▸ keyed ▸ keyed ▸ keyed ▸ keyed ▸ keyed ▸ keyed ▸ keyed ▸ keyed ▸ tt)
       (λ i p h. refl)
@@ -178,7 +171,7 @@ module _ (c : Counts) (few : c.layers ≤ 64) (a b : ℕ) (small : u32_fits a �
 port_fits_lem : (c : Counts) (n a b : ℕ) → u32_fits a ≡ true → u16_fits b ≡ true → port_kind_fits c (port_in (port_of n a b)) ≡ true
 unfolding port_of
 port_fits_lem c n a b small half =
-    each_at (λ (k : ℕ) (x : FoundPort). port_kind_fits c (port_in x) ≡ true) 0 (ports a b) NoPort
+    each_at (λ (k : ℕ) (x : Option PortKind). port_kind_fits c (port_in x) ≡ true) 0 (ports a b) None
     (small ▸ small ▸ small ▸ small ▸ small ▸ small ▸ (λ i. small i && half i) ▸ small ▸ tt)
     (λ i p. refl)
     n

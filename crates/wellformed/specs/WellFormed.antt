@@ -1,11 +1,9 @@
 -- Which values make an image that check takes, but for kind and layer rules: document 01's rules of records, said of a value.
-use Rattle.std.specs.Prelude.{Bool as Truth, true, false, not, ◌&&◌, ◌||◌, ◌≡◌, List, [], ◌∷◌, ℕ, eqb, ltb, leb, length}
+use Rattle.std.specs.Prelude.{Bool as Truth, true, false, not, ◌&&◌, ◌||◌, ◌≡◌, List, [], ◌∷◌, ℕ, eqb, ltb, leb, length, None, Option, Some}
 use Rattle.vir.specs.declared.interface.InterfaceKind.{InterfaceKind}
 use Rattle.vir.specs.declared.interface.InterfaceKind.TheVariants.{Unconditional, Branch, Match, Closure, Inspect}
 use Rattle.vir.specs.declared.port.PortKind.{PortKind}
 use Rattle.vir.specs.declared.port.PortKind.TheVariants.{Nil, Bool, N32, F32, F64, Nat, Wire, Error}
-use Rattle.vir.specs.declared.step.Onward.{Onward}
-use Rattle.vir.specs.declared.step.Onward.TheVariants.{To, Nowhere}
 use Rattle.vir.specs.declared.step.Step.{Step}
 use Rattle.vir.specs.declared.step.Step.TheVariants.{Invoke, Transfer, Diverge, Link, Call, Const, Composite, Rewrap, Enum, Union, Ref, List as Listing, String, InlineIvy, BoolNot, BoolAnd}
 use Rattle.vir.specs.Arity.{allows}
@@ -19,6 +17,7 @@ use Rattle.records.specs.Layout.{within}
 use Rattle.image.specs.Encode.{all_actions, all_ports, counts_of_vir}
 use Rattle.image.specs.Kind.{all}
 use Rattle.image.specs.Vir.{Layer, Interface, Port, Action, Stage, Local, Flex, Vir}
+use Rattle.vir.specs.declared.ids.InterfaceId.{InterfaceId}
 
 -- a number fits a field of 16 bits, or of 32
 abbrev pub u16_fits : ℕ → Truth
@@ -70,9 +69,9 @@ module _ (c : Counts) where
   abbrev pub local_fits : Local → Truth
   local_fits l = u32_fits l.span && u16_fits l.ty && type_named c l.ty && flags_good l.flags
 
-  abbrev pub onward_fits : Onward → Truth
-  onward_fits (To i) = ltb i.0 c.interfaces
-  onward_fits Nowhere = true
+  abbrev pub onward_fits : Option InterfaceId → Truth
+  onward_fits (Some i) = ltb i.0 c.interfaces
+  onward_fits None = true
 
   abbrev pub step_fits : Step → Truth
   step_fits (Invoke span l i) = u32_fits span.0 && ltb l.0 c.locals

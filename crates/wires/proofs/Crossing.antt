@@ -1,92 +1,81 @@
 -- The interfaces one by one: those behind, with those ahead, are what set_wires makes of all.
 use mathlib.Core.Path.{◌≡◌, ◌∙◌, refl, sym, ap, ap₂}
-use mathlib.Core.Bool.{Bool, true, false, not, ◌&&◌, ◌||◌}
+use mathlib.Core.Bool.{Bool, true, false, not, ◌&&◌, ◌||◌, or-false, or_assoc}
 use mathlib.Core.List.{List, [], ◌∷◌, ◌++◌, map, append_assoc, append-nil}
 use Prim.Native.Nat.{ℕ, suc, ◌+◌, ◌<◌, ◌≤◌}
 use native.Mathlib.Numerals.{add-one}
 use native.Mathlib.Omega.{arith}
-use borrow.Author.Tests.{eq-eqb, ne_eqb}
+use lib.Dec.{eqb}
 use lib.ListN.{length, get_or, set, take, drop, length-set, drop_of_length-le}
 use lib.Seq.{drop-cons, take-suc-set, get_or-take, length-take-le}
+use Rattle.std.specs.Prelude.{Option, Some, None}
 use Rattle.effect.specs.declared.Effect.{Effect}
 use Rattle.effect.specs.declared.Effect.TheVariants.{Pass, Never}
 use Rattle.effect.specs.Effect.{barrier}
-use Rattle.report.specs.Report.{no_wire, half}
+use Rattle.report.specs.Report.{Wire as Written, no_wire, half}
 use Rattle.solve.specs.FixedPoint.{effect_at}
 use Rattle.solve.specs.Tables.{effects_of}
 use Rattle.analyzer.specs.Build.{get_transfer}
 use Rattle.analyzer.specs.Wires.{is, output, input, triple, wire_of, set_wires, loops}
+use Rattle.wires.specs.declared.Sides.{Sides}
 use Rattle.wires.specs.Crossing.{wire_at, loops_at, Crossed}
+use Rattle.wires.specs.Wires.{sides_at}
 
 -- ---- one wire
 
-module _ (inv fork : Bool) (interior exterior : Effect) where
+module _ (interior exterior : Effect) where
   abbrev pub none : Bool
   none = is interior Never || is exterior Never || is interior Pass || is exterior Pass
 
-  by : (b : Bool) → none ≡ b
-      → half (elim b [ true ↦ no_wire | false ↦ triple inv (input fork interior exterior) (barrier interior) (output fork interior exterior) ])
-      ≡ half (wire_of inv fork interior exterior)
-  by b e =
-      ap
-      (λ (b : Bool).
-      half (elim b [ true ↦ no_wire | false ↦ triple inv (input fork interior exterior) (barrier interior) (output fork interior exterior) ]))
-      (sym e)
-
-  module _ {b : Bool} (p : b ≡ none) where
-    pub wire-none : b ≡ true → 0 ≡ half (wire_of inv fork interior exterior)
-    wire-none e = by true (sym p ∙ e)
+  module _ (inv fork : Bool) where
+    abbrev by : Bool → Written
+    by b = elim b [ true ↦ no_wire | false ↦ triple inv (input fork interior exterior) (barrier interior) (output fork interior exterior) ]
 
     -- the triple either way round, with the code's flags
-    module _ {o m n : Bool} (x : o ≡ output fork interior exterior) (y : m ≡ barrier interior) (z : n ≡ input fork interior exterior) (e : b ≡ false) where
-      pub wire-inverse : {r : ℕ} → inv ≡ true → r ≡ half (record { present = true; first = o; second = m; third = n })
-          → r ≡ half (wire_of inv fork interior exterior)
-      wire-inverse h q =
-          q
-          ∙ (λ i. half (triple true (z i) (y i) (x i)))
-          ∙ ap (λ (v : Bool). half (triple v (input fork interior exterior) (barrier interior) (output fork interior exterior))) (sym h)
-          ∙ by false (sym p ∙ e)
-
-      pub wire-upright : {r : ℕ} → inv ≡ false → r ≡ half (record { present = true; first = n; second = m; third = o })
-          → r ≡ half (wire_of inv fork interior exterior)
-      wire-upright h q =
-          q
-          ∙ (λ i. half (triple false (z i) (y i) (x i)))
-          ∙ ap (λ (v : Bool). half (triple v (input fork interior exterior) (barrier interior) (output fork interior exterior))) (sym h)
-          ∙ by false (sym p ∙ e)
+    pub wire-triple : {v o m n : Bool} → inv ≡ v → o ≡ output fork interior exterior → m ≡ barrier interior → n ≡ input fork interior exterior
+        → none ≡ false → triple v n m o ≡ wire_of inv fork interior exterior
+    wire-triple h x y z e = (λ i. triple (sym h i) (z i) (y i) (x i)) ∙ ap by (sym e)
 
 -- ---- one interface
 
-module _ (inv fork : Bool) (es : List Effect) (i incoming : ℕ) where
-  abbrev here : Bool → ℕ
-  here b = half (elim b [ true ↦ no_wire | false ↦ wire_of inv fork (effect_at es (get_transfer i).0) (effect_at es (get_transfer i).1) ])
+-- what its sides make
+abbrev pub wire_between : Bool → Bool → Option Sides → Written
+wire_between inv fork None = no_wire
+wire_between inv fork (Some s) = wire_of inv fork s.interior s.exterior
 
-  pub wire_unreached : incoming ≡ 0 → 0 ≡ half (wire_at inv fork es i incoming)
-  wire_unreached e = ap here (sym (eq-eqb incoming 0 e))
-
-  pub wire_reached : {r : ℕ} → (incoming ≡ 0 → ⊥) → r ≡ half (wire_of inv fork (effect_at es (get_transfer i).0) (effect_at es (get_transfer i).1))
-      → r ≡ half (wire_at inv fork es i incoming)
-  wire_reached n p = p ∙ ap here (sym (ne_eqb incoming 0 n))
+abbrev pub loops_between : Option Sides → Bool
+loops_between None = false
+loops_between (Some s) = is s.interior Never || is s.exterior Never
 
 module _ (es : List Effect) (i incoming : ℕ) where
-  abbrev met : Bool
-  met = is (effect_at es (get_transfer i).0) Never || is (effect_at es (get_transfer i).1) Never
+  abbrev sides : Bool → Option Sides
+  sides b = elim b [ true ↦ None | false ↦ Some (record { interior = effect_at es (get_transfer i).0; exterior = effect_at es (get_transfer i).1 }) ]
 
-  pub loops_unreached : incoming ≡ 0 → false ≡ loops_at es i incoming
-  loops_unreached e = ap (λ (b : Bool). not b && met) (sym (eq-eqb incoming 0 e))
+  wire-sides : (inv fork : Bool) → wire_between inv fork (sides_at es i incoming) ≡ wire_at inv fork es i incoming
+  wire-sides inv fork = by (eqb incoming 0)
+    where
+      by : (b : Bool) → wire_between inv fork (sides b)
+          ≡ elim b [ true ↦ no_wire | false ↦ wire_of inv fork (effect_at es (get_transfer i).0) (effect_at es (get_transfer i).1) ]
+      by true = refl
+      by false = refl
 
-  pub loops_reached : {r : Bool} → (incoming ≡ 0 → ⊥) → r ≡ met → r ≡ loops_at es i incoming
-  loops_reached n p = p ∙ ap (λ (b : Bool). not b && met) (sym (ne_eqb incoming 0 n))
+  loops-sides : loops_between (sides_at es i incoming) ≡ loops_at es i incoming
+  loops-sides = by (eqb incoming 0)
+    where
+      by : (b : Bool) → loops_between (sides b)
+          ≡ (not b && (is (effect_at es (get_transfer i).0) Never || is (effect_at es (get_transfer i).1) Never))
+      by true = refl
+      by false = refl
+
+  -- with the code's sides
+  module _ {s : Option Sides} (e : s ≡ sides_at es i incoming) where
+    pub wired_by : (inv fork : Bool) {x : ℕ} → x ≡ half (wire_between inv fork s) → x ≡ half (wire_at inv fork es i incoming)
+    wired_by inv fork p = p ∙ ap (λ (s : Option Sides). half (wire_between inv fork s)) e ∙ ap half (wire-sides inv fork)
+
+    pub looped_by : {q : Bool} → q ≡ loops_between s → q ≡ loops_at es i incoming
+    looped_by p = p ∙ ap loops_between e ∙ loops-sides
 
 -- ---- all of them
-
-or_assoc : (a b c : Bool) → ((a || b) || c) ≡ (a || (b || c))
-or_assoc true b c = refl
-or_assoc false b c = refl
-
-or_false : (b : Bool) → (b || false) ≡ b
-or_false true = refl
-or_false false = refl
 
 pub record Crossing (n : ℕ) (incoming : List ℕ) (inv fork : Bool) (es wires₀ wires : List ℕ) (b : Bool) (i : ℕ) : Type 0 where
   pub reached : i ≤ n
@@ -94,9 +83,6 @@ pub record Crossing (n : ℕ) (incoming : List ℕ) (inv fork : Bool) (es wires�
   pub wired : take i wires ++ map half (set_wires inv fork (effects_of es) i (drop i (take n incoming)))
       ≡ map half (set_wires inv fork (effects_of es) 0 (take n incoming))
   pub looped : (b || loops (effects_of es) i (drop i (take n incoming))) ≡ loops (effects_of es) 0 (take n incoming)
-
-pub crossing-start : {n : ℕ} {incoming : List ℕ} {inv fork : Bool} {es wires : List ℕ} → Crossing n incoming inv fork es wires wires false 0
-crossing-start = record { reached = omega arith; sized = refl; wired = refl; looped = refl }
 
 module _ {n : ℕ} {incoming : List ℕ} {inv fork : Bool} {es wires₀ wires : List ℕ} {b : Bool} {i : ℕ}
     (w : Crossing n incoming inv fork es wires₀ wires b i) where
@@ -139,7 +125,7 @@ module _ {n : ℕ} {incoming : List ℕ} {inv fork : Bool} {es wires₀ wires : 
             ∙ sym (append-nil (take i wires))
             ∙ sym (ap (λ (s : List ℕ). take i wires ++ map half (set_wires inv fork (effects_of es) i s)) done)
             ∙ w.wired;
-        loops = sym (or_false b) ∙ sym (ap (λ (s : List ℕ). b || loops (effects_of es) i s) done) ∙ w.looped;
+        loops = sym (or-false b) ∙ sym (ap (λ (s : List ℕ). b || loops (effects_of es) i s) done) ∙ w.looped;
       }
     where
       all : n ≡ i

@@ -1,25 +1,18 @@
-use Prim.Native.Nat.{◌<◌}
-use native.Mathlib.Omega.{arith}
-use lib.ListN.{length}
+use Rattle.std.proofs.Common.{refl, rules, tests, take, arith}
+use Rattle.std.proofs.lemmas.Iterator.{YieldsList-from_range}
+use Rattle.std.proofs.lemmas.Iterator.Search.{any_from_yields_List}
 use Rattle.image.specs.View.{view}
-use Rattle.reading.proofs.Reading.{stages-many}
-use Rattle.locals.proofs.Searching.{seeking_start, seeking_on, seeking_found, seeking_end}
+use Rattle.image.specs.Vir.{stage_of}
+use Rattle.reading.proofs.Reading.{image_of}
+use Rattle.locals.specs.Declared.{declared_in}
+use Rattle.locals.proofs.Searching.{declared_of}
 use Rattle.locals.proofs.declared.Goals as goal
-
--- the stage that is asked is one of the image's
-pub loop-t-init : goal.loop-t-init
-loop-t-init c = seeking_start
-
-pub returns-then-declared_in : goal.returns-then-declared_in
-returns-then-declared_in c =
-    let there : c.loop-t.t < length (view c.args.s.now).stages = omega (arith, c.loop-t-test.true, stages-many c.requires.image) in
-    seeking_found c.loop-t.invariant c.declared_in.ensures there c.if-declared_in.true
-
-pub loop-t-preserved : goal.loop-t-preserved
-loop-t-preserved c =
-    let there : c.loop-t.t < length (view c.args.s.now).stages = omega (arith, c.loop-t-test.true, stages-many c.requires.image) in
-    seeking_on c.loop-t.invariant c.declared_in.ensures there c.if-declared_in.false
 
 pub returns : goal.returns
 returns c =
-    seeking_end c.loop-t.invariant (omega (arith, c.loop-t-test.false, stages-many c.requires.image))
+    let records = c.args.image.now.records in
+    let reached = take records.counts.interfaces c.args.incoming.now in
+    declared_of (image_of c.args.image.now) reached c.args.l.0
+    (any_from_yields_List (λ t. declared_in reached c.args.l.0 (stage_of (view records.bytes.now) t)) _ _ c.any.result c.any.ensures.ran
+    (YieldsList-from_range 0 _ records.counts.stages refl (omega arith))
+    (λ x b q k. search (rules, tests)))

@@ -1,8 +1,10 @@
-use Rattle.reading.proofs.Listed.{stages-none, stages-some}
+use mathlib.Core.Path.{◌≡◌, ◌∙◌, sym}
+use mathlib.Core.Bool.{true}
+use Rattle.std.proofs.lemmas.Bool.{false≢true}
+use Rattle.reading.proofs.Listed.{stages_some}
 use Rattle.reading.proofs.stages.Goals as goal
 
-pub returns-then-inspect : goal.returns-then-inspect
-returns-then-inspect c = stages-none c.interface-record.ensures c.if-inspect.true
-
 pub returns : goal.returns
-returns c = stages-some c.interface-record.ensures c.if-inspect.false
+returns c =
+    stages_some c.interface-record.ensures
+    (λ e. let found : c.eq-inspect.result ≡ true = rw (c.try_from.ensures, e) at c.eq-inspect.ensures in false≢true (sym c.if-inspect.false ∙ found))

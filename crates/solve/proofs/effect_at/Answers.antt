@@ -4,4 +4,4 @@ use Rattle.solve.proofs.effect_at.Goals as goal
 
 pub returns : goal.returns
 returns c =
-    c.from_number.ensures ∙ effect-read c.args.effects.now c.args.v c.requires
+    c.from.ensures ∙ effect-read c.args.effects.now c.args.v c.requires

@@ -1,15 +1,11 @@
-use mathlib.Core.Path.{◌≡◌}
 use Prim.Native.Nat.{◌-◌, ◌*◌}
 use lib.ListN.{length}
-use Rattle.solve.specs.Tables.{relations_of, effects_of}
+use Rattle.solve.specs.Tables.{effects_of, SameMemory}
 use Rattle.solve.proofs.Going.{Going}
 use Rattle.solve.proofs.fixed_point.Given as goal
 
-abbrev pub invariant-loop-w : goal.invariant-loop-w
-invariant-loop-w l =
-    (length l.effects ≡ length l.initial.effects)
-    × (length l.stack ≡ length l.initial.stack)
-    × Going l.inv (relations_of l.relations l.held) (effects_of l.initial.effects) l.effects l.stack l.w
+abbrev pub invariant-loop-v : goal.invariant-loop-v
+invariant-loop-v l = SameMemory l.initial.worklist l.worklist × Going l.inv l.relations.rows.now (effects_of l.fn.effects) l.worklist
 
-abbrev pub decreases-loop-w : goal.decreases-loop-w
-decreases-loop-w l = 4 * length l.initial.effects - l.w.takes
+abbrev pub decreases-loop-v : goal.decreases-loop-v
+decreases-loop-v l = 4 * length l.fn.effects - l.worklist.takes

@@ -1,11 +1,10 @@
 -- The cycle of calls of `sweep`: an interface with the loop over the stages that it lists, a stage with the loop over its steps, and a step.
-use Rattle.std.proofs.Common.{◌≡◌, ◌∙◌, ℕ, ◌<◌, ◌≤◌, sym, ap, subst, length, arith}
-use lib.ListN.{get_or}
+use Rattle.std.proofs.Common.{◌∙◌, ℕ, ◌<◌, ◌≤◌, refl, sym, ap, subst, length, arith}
 use Rattle.image.specs.Accepted.{NamedOrNone}
 use Rattle.image.specs.View.{view}
-use Rattle.reading.proofs.Reading.{interfaces-many}
+use Rattle.reading.proofs.Reading.{image_of, interfaces-many}
 use Rattle.analyzer.proofs.Counts.{at_most, unmet-first}
-use Rattle.analyzer.proofs.Onward.{onward_to, listed-onward, onward-long, nowhere, stage-onward, step_nowhere, step-onward}
+use Rattle.analyzer.proofs.Onward.{onward_to, listed-onward, onward-long, nowhere, stage-onward}
 use Rattle.analyzer.proofs.Sweeping.{ready_as, sweeping_start, sweeping_as, walking_ready, walking_on, walking_end, come_again, first_ready, come_first}
 use Rattle.analyzer.proofs.sweep.+sweep_sweep_stage_sweep_step.Goals as goal
 
@@ -17,74 +16,54 @@ sweep-returns-then-again t c = come_again c.args.i.0 c.if-again.true
 
 pub sweep-sweep_stage-requires : goal.sweep-sweep_stage-requires
 sweep-sweep_stage-requires t c =
-    let l = c.loop-left in
-    let new : get_or c.args.incoming.now c.args.i.0 0 ≡ 0 = c.if-again.false in
+    let w = c.loop-k.invariant in
+    let s = c.args.image.now.records.bytes.now in
     let below : c.args.i.0 < length c.args.incoming.now = omega (arith, c.requires.ready, c.requires.i_lt_interfaces) in
+    let m = image_of c.args.image.now in
     let read = c.stages-list.ensures in
-    let on = listed-onward c.requires.image read in
-    let few = onward-long c.requires.image read in
     let entry = c.reference.ensures in (
-      omega (arith, l.invariant.sweeping.fewer, unmet-first c.args.incoming.now c.args.i.0 below new, c.decreases),
+      omega (arith, w.sweeping.fewer, unmet-first c.args.incoming.now c.args.i.0 below c.if-again.false, c.decreases),
       (
-        c.requires.image,
-        (
-          subst (λ (t : ℕ). NamedOrNone t c.args.c.stages) (sym entry)
-              (read.named l.k l.invariant.begun (omega (arith, l.invariant.ends, c.loop-left-test.true))),
-          ready_as (ap (onward_to c.args.s.now) (sym entry))
-              (walking_ready l.invariant c.loop-left-test.true (first_ready (view c.args.s.now) c.args.i.0 below new on few c.requires.ready)),
-        ),
+        subst (λ (t : ℕ). NamedOrNone t c.args.image.now.records.counts.stages) (sym entry) (read.named c.loop-k.k c.loop-k.auto.k c.loop-k-test.true),
+        ready_as (ap (onward_to s) (sym entry))
+            (walking_ready w _ refl c.loop-k-test.true
+            (first_ready (view s) c.args.i.0 below c.if-again.false (listed-onward m read) (onward-long m read) c.requires.ready)),
       ),
     )
 
-pub sweep-loop-left-preserved : goal.sweep-loop-left-preserved
-sweep-loop-left-preserved t c =
-    walking_on c.loop-left.invariant c.loop-left-test.true
-    (sweeping_as (ap (onward_to c.args.s.now) c.reference.ensures) c.sweep_stage.ensures)
+pub sweep-loop-k-preserved : goal.sweep-loop-k-preserved
+sweep-loop-k-preserved t c =
+    walking_on c.loop-k.invariant c.loop-k-test.true
+    (sweeping_as (ap (onward_to c.args.image.now.records.bytes.now) c.reference.ensures) c.sweep_stage.ensures)
 
 pub sweep-returns : goal.sweep-returns
 sweep-returns t c =
     let below : c.args.i.0 < length c.args.incoming.now = omega (arith, c.requires.ready, c.requires.i_lt_interfaces) in
+    let m = image_of c.args.image.now in
     let read = c.stages-list.ensures in
-    come_first (view c.args.s.now) c.args.i.0 below c.if-again.false (listed-onward c.requires.image read) (onward-long c.requires.image read)
-    (c.requires.ready.sized ∙ sym (interfaces-many c.requires.image))
-    (walking_end c.loop-left.invariant c.loop-left-test.false)
+    come_first (view c.args.image.now.records.bytes.now) c.args.i.0 below c.if-again.false (listed-onward m read) (onward-long m read)
+    (c.requires.ready.sized ∙ sym (interfaces-many m))
+    (walking_end c.loop-k.invariant _ refl c.loop-k-test.false)
 
-pub sweep_stage-returns-then-t-eq65535 : goal.sweep_stage-returns-then-t-eq65535
-sweep_stage-returns-then-t-eq65535 t c =
-    let past : c.args.c.stages ≤ c.args.t.0 = omega (arith, c.if-t-eq65535.true, c.requires.image.accepted.sized.stages) in
-    sweeping_as (sym (nowhere c.requires.image c.args.t.0 past)) sweeping_start
+pub sweep_stage-returns-then-t-eq-NONE : goal.sweep_stage-returns-then-t-eq-NONE
+sweep_stage-returns-then-t-eq-NONE t c =
+    let past : c.args.image.now.records.counts.stages ≤ c.args.t.0 = omega (arith, c.if-t-eq-NONE.true, c.args.image.now.records.sized.stages) in
+    sweeping_as (sym (nowhere (image_of c.args.image.now) c.args.t.0 past)) sweeping_start
 
 pub sweep_stage-sweep_step-requires : goal.sweep_stage-sweep_step-requires
 sweep_stage-sweep_step-requires t c =
-    let l = c.loop-left in
-    let read = c.stage-record.ensures in (
-      omega (arith, l.invariant.sweeping.fewer, c.decreases),
+    let w = c.loop-j.invariant in
+    let read = c.stage.ensures in (
+      omega (arith, w.sweeping.fewer, c.decreases),
       (
-        c.requires.image,
-        (
-          omega (arith, l.invariant.ends, c.loop-left-test.true, read.facts.steps_fit),
-          walking_ready l.invariant c.loop-left-test.true (ready_as (stage-onward read) c.requires.ready),
-        ),
+        omega (arith, c.loop-j-test.true, read.facts.steps_fit),
+        walking_ready w _ refl c.loop-j-test.true (ready_as (stage-onward read) c.requires.ready),
       ),
     )
 
-pub sweep_stage-loop-left-preserved : goal.sweep_stage-loop-left-preserved
-sweep_stage-loop-left-preserved t c = walking_on c.loop-left.invariant c.loop-left-test.true c.sweep_step.ensures
+pub sweep_stage-loop-j-preserved : goal.sweep_stage-loop-j-preserved
+sweep_stage-loop-j-preserved t c = walking_on c.loop-j.invariant c.loop-j-test.true c.sweep_step.ensures
 
 pub sweep_stage-returns : goal.sweep_stage-returns
 sweep_stage-returns t c =
-    sweeping_as (sym (stage-onward c.stage-record.ensures)) (walking_end c.loop-left.invariant c.loop-left-test.false)
-
-pub sweep_step-returns-then-stays : goal.sweep_step-returns-then-stays
-sweep_step-returns-then-stays t c = sweeping_as (sym (step_nowhere c.step-record.ensures c.if-stays.true)) sweeping_start
-
-pub sweep_step-sweep-requires : goal.sweep_step-sweep-requires
-sweep_step-sweep-requires t c =
-    let read = c.step-record.ensures in
-    let jumps = c.if-stays.false in (
-      omega (arith, c.decreases),
-      (c.requires.image, (read.facts.interface jumps, ready_as (step-onward read jumps) c.requires.ready)),
-    )
-
-pub sweep_step-returns : goal.sweep_step-returns
-sweep_step-returns t c = sweeping_as (sym (step-onward c.step-record.ensures c.if-stays.false)) c.sweep.ensures
+    sweeping_as (sym (stage-onward c.stage.ensures)) (walking_end c.loop-j.invariant _ refl c.loop-j-test.false)

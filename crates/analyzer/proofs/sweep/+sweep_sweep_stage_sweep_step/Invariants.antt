@@ -19,15 +19,13 @@ abbrev pub decreases-sweep_step : goal.decreases-sweep_step
 decreases-sweep_step l = 3 * unmet l.incoming.now + 1
 
 -- an interface's loop over the stages that it lists
-abbrev pub invariant-sweep-loop-left : goal.invariant-sweep-loop-left
-invariant-sweep-loop-left l = Walking (view l.s) (onward_to l.s) (ref_nth l.s l.c) l.initial.k l.initial.left l.initial.incoming l.incoming l.k l.left
-
-abbrev pub decreases-sweep-loop-left : goal.decreases-sweep-loop-left
-decreases-sweep-loop-left l = l.left
+abbrev pub invariant-sweep-loop-k : goal.invariant-sweep-loop-k
+invariant-sweep-loop-k l =
+    let s = l.image.records.bytes.now in
+    Walking (view s) (onward_to s) (ref_nth s l.image.records.counts) l.initial.k l.k-end l.initial.incoming l.incoming l.k
 
 -- a stage's loop over its steps
-abbrev pub invariant-sweep_stage-loop-left : goal.invariant-sweep_stage-loop-left
-invariant-sweep_stage-loop-left l = Walking (view l.s) (λ a. transfer_to a.step) (action_at l.s l.c) l.initial.j l.initial.left l.initial.incoming l.incoming l.j l.left
-
-abbrev pub decreases-sweep_stage-loop-left : goal.decreases-sweep_stage-loop-left
-decreases-sweep_stage-loop-left l = l.left
+abbrev pub invariant-sweep_stage-loop-j : goal.invariant-sweep_stage-loop-j
+invariant-sweep_stage-loop-j l =
+    let s = l.image.records.bytes.now in
+    Walking (view s) (λ a. transfer_to a.step) (action_at s l.image.records.counts) l.initial.j l.j-end l.initial.incoming l.incoming l.j

@@ -1,42 +1,42 @@
 use mathlib.Core.Path.{◌≡◌, ◌∙◌, sym, ap}
-use mathlib.Core.Bool.{Bool}
-use mathlib.Core.List.{List}
+use mathlib.Core.Bool.{Bool, ◌||◌}
 use Prim.Native.Nat.{ℕ}
 use native.Mathlib.Omega.{arith}
+use lib.Dec.{eqb}
 use lib.ListN.{get_or}
-use borrow.Author.Rules.{rules}
-use Rattle.records.specs.declared.layout.Counts.{Counts}
+use Rattle.records.specs.declared.Records.{Records}
 use Rattle.records.proofs.Every.{every-zero, every-on, every_stop, every_end}
-use Rattle.image.proofs.Fields.{parent-at}
+use Rattle.vir.specs.Ids.{none}
+use Rattle.image.proofs.Fields.{parent_read}
 use Rattle.image.proofs.Viewing.{length-layers}
-use Rattle.image.proofs.entering.entered_once.Invariants.{once, fits}
+use Rattle.image.proofs.entering.entered_once.Invariants.{once}
 use Rattle.image.proofs.entering.entered_once.Goals as goal
+use Rattle.image.proofs.entering.entered_once.Goals.{After-eq}
+
+-- what the code tests is the layer's rule
+tested : (c : After-eq)
+    → once c.args.records.now c.args.counts.now c.loop-l.l ≡ (c.eq.result || eqb (get_or c.args.counts.now c.loop-l.l 0) 1)
+tested c =
+    let r : Records = c.args.records.now in
+    let n : ℕ = get_or c.args.counts.now c.loop-l.l 0 in
+    ap (λ (p : ℕ). eqb p none || eqb n 1) (parent_read r.bytes.now r.counts c.loop-l.l c.loop-l-test.true c.nth-layer.ensures)
+    ∙ ap (λ (b : Bool). b || eqb n 1) (sym c.eq.ensures)
 
 pub loop-l-init : goal.loop-l-init
-loop-l-init c = (search rules, every-zero _)
-
-pub returns-then-not-parent-n : goal.returns-then-not-parent-n
-returns-then-not-parent-n c =
-    let s : List ℕ = c.args.s.now in
-    let counts : Counts = c.args.c in
-    let counted : List ℕ = c.args.counts.now in
-    let l : ℕ = c.loop-l.l in
-    let rule : ℕ → Bool = once s counts counted in
-    let tested : rule l ≡ fits c.u16_at-parent.result (get_or counted l 0) = ap (λ (p : ℕ). fits p (get_or counted l 0)) (parent-at s counts l (search rules) ∙ sym c.u16_at-parent.ensures) in
-    sym (every_stop rule _ l (omega (arith, length-layers s counts)) (tested ∙ c.if-not-parent-n.true))
+loop-l-init c = every-zero _
 
 pub loop-l-preserved : goal.loop-l-preserved
-loop-l-preserved c =
-    let s : List ℕ = c.args.s.now in
-    let counts : Counts = c.args.c in
-    let counted : List ℕ = c.args.counts.now in
-    let l : ℕ = c.loop-l.l in
-    let rule : ℕ → Bool = once s counts counted in
-    let tested : rule l ≡ fits c.u16_at-parent.result (get_or counted l 0) = ap (λ (p : ℕ). fits p (get_or counted l 0)) (parent-at s counts l (search rules) ∙ sym c.u16_at-parent.ensures) in
-    (search rules, every-on rule l c.loop-l.invariant.1 (tested ∙ c.if-not-parent-n.false))
+loop-l-preserved c = every-on _ _ c.loop-l.invariant (tested (goal.at.loop-l-preserved c).After-eq ∙ c.if-not-eq-n.false)
+
+pub returns-then-not-eq-n : goal.returns-then-not-eq-n
+returns-then-not-eq-n c =
+    let r : Records = c.args.records.now in
+    let at = goal.at.returns-then-not-eq-n c in
+    sym (every_stop (once r c.args.counts.now) _ c.loop-l.l (omega (arith, length-layers r.bytes.now r.counts))
+    (tested at.After-eq ∙ c.if-not-eq-n.true))
 
 pub returns : goal.returns
 returns c =
-    let a = c.args in
-    let n = length-layers a.s.now a.c in
-    sym (every_end (once a.s.now a.c a.counts.now) _ c.loop-l.l (omega (arith, n)) (omega (arith, n)) c.loop-l.invariant.1)
+    let r : Records = c.args.records.now in
+    let n = length-layers r.bytes.now r.counts in
+    sym (every_end (once r c.args.counts.now) _ c.loop-l.l (omega arith) (omega arith) c.loop-l.invariant)

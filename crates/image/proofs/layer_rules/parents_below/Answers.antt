@@ -1,41 +1,38 @@
 use mathlib.Core.Path.{◌≡◌, ◌∙◌, sym, ap}
-use mathlib.Core.List.{List}
+use mathlib.Core.Bool.{Bool, ◌||◌}
 use Prim.Native.Nat.{ℕ}
 use native.Mathlib.Omega.{arith}
-use borrow.Author.Rules.{rules}
-use Rattle.records.specs.declared.layout.Counts.{Counts}
-use Rattle.records.specs.Bytes.{u16_at}
-use Rattle.image.specs.View.{view_of}
-use Rattle.image.specs.Vir.{layer_of}
+use lib.Dec.{eqb, ltb}
+use Rattle.records.specs.declared.Records.{Records}
 use Rattle.records.proofs.Every.{every-zero, every-on, every_stop, every_end}
-use Rattle.image.proofs.Fields.{parent-at}
+use Rattle.vir.specs.Ids.{none}
+use Rattle.image.proofs.Fields.{parent_read}
 use Rattle.image.proofs.Viewing.{length-layers}
-use Rattle.image.proofs.layer_rules.parents_below.Invariants.{falls, fits}
+use Rattle.image.proofs.layer_rules.parents_below.Invariants.{falls}
 use Rattle.image.proofs.layer_rules.parents_below.Goals as goal
+use Rattle.image.proofs.layer_rules.parents_below.Goals.{After-eq}
+
+-- what the code tests is the layer's rule
+tested : (c : After-eq) → falls c.args.records.now c.loop-l.l ≡ (c.eq.result || ltb c.nth-layer.result.parent.0 c.loop-l.l)
+tested c =
+    let r : Records = c.args.records.now in
+    ap (λ (p : ℕ). eqb p none || ltb p c.loop-l.l) (parent_read r.bytes.now r.counts c.loop-l.l c.loop-l-test.true c.nth-layer.ensures)
+    ∙ ap (λ (b : Bool). b || ltb c.nth-layer.result.parent.0 c.loop-l.l) (sym c.eq.ensures)
 
 pub loop-l-init : goal.loop-l-init
-loop-l-init c = (search rules, search rules, every-zero _)
+loop-l-init c = every-zero _
 
-pub returns-then-not-parent-l : goal.returns-then-not-parent-l
-returns-then-not-parent-l c =
-    let s : List ℕ = c.args.s.now in
-    let counts : Counts = c.args.c in
-    let l : ℕ = c.loop-l.l in
-    let read : (layer_of (view_of s counts) l).parent ≡ c.u16_at-parent.result = parent-at s counts l (search rules) ∙ ap (u16_at s) (sym c.loop-l.invariant.1) ∙ sym c.u16_at-parent.ensures in
-    let tested : falls s counts l ≡ fits c.u16_at-parent.result l = ap (λ (p : ℕ). fits p l) read in
-    sym (every_stop (falls s counts) _ l (omega (arith, length-layers s counts)) (tested ∙ c.if-not-parent-l.true))
+pub returns-then-not-eq-layer : goal.returns-then-not-eq-layer
+returns-then-not-eq-layer c =
+    let r : Records = c.args.records.now in
+    let at = goal.at.returns-then-not-eq-layer c in
+    sym (every_stop (falls r) _ c.loop-l.l (omega (arith, length-layers r.bytes.now r.counts)) (tested at.After-eq ∙ c.if-not-eq-layer.true))
 
 pub loop-l-preserved : goal.loop-l-preserved
-loop-l-preserved c =
-    let s : List ℕ = c.args.s.now in
-    let counts : Counts = c.args.c in
-    let l : ℕ = c.loop-l.l in
-    let read : (layer_of (view_of s counts) l).parent ≡ c.u16_at-parent.result = parent-at s counts l (search rules) ∙ ap (u16_at s) (sym c.loop-l.invariant.1) ∙ sym c.u16_at-parent.ensures in
-    let tested : falls s counts l ≡ fits c.u16_at-parent.result l = ap (λ (p : ℕ). fits p l) read in
-    (search rules, search rules, every-on (falls s counts) l c.loop-l.invariant.2 (tested ∙ c.if-not-parent-l.false))
+loop-l-preserved c = every-on _ _ c.loop-l.invariant (tested (goal.at.loop-l-preserved c).After-eq ∙ c.if-not-eq-layer.false)
 
 pub returns : goal.returns
 returns c =
-    let a = c.args in
-    let n = length-layers a.s.now a.c in
-    sym (every_end (falls a.s.now a.c) _ c.loop-l.l (omega (arith, n)) (omega (arith, n)) c.loop-l.invariant.2)
+    let r : Records = c.args.records.now in
+    let n = length-layers r.bytes.now r.counts in
+    sym (every_end (falls r) _ c.loop-l.l (omega arith) (omega arith) c.loop-l.invariant)

@@ -1,35 +1,44 @@
-use mathlib.Core.Path.{◌∙◌, sym}
+use Rattle.std.proofs.Common.{rules, ok_or}
+use mathlib.Core.Path.{◌≡◌, ◌∙◌, sym, ap}
+use Prim.Native.Nat.{ℕ, ◌<◌}
 use native.Mathlib.Omega.{arith}
-use Rattle.judging.proofs.Walks.{walking_start, walking_room, walking_fault, walking_next, walking_end}
+use Rattle.records.specs.declared.running.Fault.{Fault}
+use Rattle.records.specs.Layout.{place_of, count_of}
+use Rattle.judging.specs.Judge.{judge}
+use Rattle.judging.proofs.Walks.{walking_fault, walking_on, walking_end}
+use Rattle.judging.proofs.walk.walk_section.Given.{Over}
 use Rattle.judging.proofs.walk.walk_section.Goals as goal
+use Rattle.judging.proofs.walk.walk_section.Goals.{After-judge, After-ok_or}
 
-pub loop-left-init : goal.loop-left-init
-loop-left-init c =
-    (c.size-size.ensures, walking_start _ _ _ _ c.requires.sized c.count-left.ensures c.start-p.ensures)
+-- the record, as the section's definition judges it
+judged : (g : Over) (c : After-judge g)
+    → c.judge.result ≡ judge g.R.Record.SECTION c.args.records.now.bytes.now c.args.records.now.counts (place_of c.args.records.now.counts g.R.Record.SECTION c.loop-k.k) c.loop-k.r
+judged g c =
+    c.judge.ensures
+    ∙ ap (g.R.Judge.judged c.args.records.now.bytes.now c.args.records.now.counts c.loop-k.r) c.nth-record.ensures
+    ∙ g.met.R.Judge.of_section _ _ _ _
 
-pub judge-requires : goal.judge-requires
-judge-requires c =
-    record {
-      at_value = c.requires.at_value;
-      sized = c.requires.sized;
-      x_in_bounds = walking_room c.loop-left.invariant.1 c.loop-left-test.true;
-    }
+-- and what that answers
+answered : (g : Over) (c : After-ok_or g)
+    → ok_or {E = Fault} c.judge.result (record { 0 = place_of c.args.records.now.counts g.R.Record.SECTION c.loop-k.k }) ≡ c.ok_or.result
+answered g c = sym (c.ok_or.ensures.value ∙ ap (λ (p : ℕ). ok_or {E = Fault} c.judge.result (record { 0 = p })) c.place.ensures)
 
-pub overflow_cast-result : goal.overflow_cast-result
-overflow_cast-result c =
-    let z = c.requires.sized in
-    omega (arith, z, walking_room c.loop-left.invariant.1 c.loop-left-test.true)
+-- there is a record k
+more : (g : Over) (c : After-judge g) → c.loop-k.k < count_of c.args.records.now.counts g.R.Record.SECTION
+more g c = omega (arith, c.loop-k-test.true, c.count-k-end.ensures ∙ ap (count_of c.args.records.now.counts) c.SECTION.ensures)
 
-pub returns-in-Fault : goal.returns-in-Fault
-returns-in-Fault c = walking_fault c.loop-left.invariant.1 c.loop-left-test.true (sym c.judge.ensures ∙ c.in-Fault.is)
+pub returns-in_err-r : goal.returns-in_err-r
+returns-in_err-r g c =
+    let at = goal.at.returns-in_err-r g c in
+    let fault = walking_fault c.loop-k.invariant (more g at.After-judge) (judged g at.After-judge) (answered g at.After-ok_or ∙ c.in_err-r.was) in
+    search rules
 
-pub overflow_add-p : goal.overflow_add-p
-overflow_add-p c = omega (arith, c.loop-left.invariant.0, walking_room c.loop-left.invariant.1 c.loop-left-test.true)
-
-pub loop-left-preserved : goal.loop-left-preserved
-loop-left-preserved c =
-    let loop = c.loop-left in
-    (loop.invariant.0, walking_next loop.invariant.0 loop.invariant.1 c.loop-left-test.true (sym c.judge.ensures ∙ c.in-Next.is))
+pub loop-k-preserved : goal.loop-k-preserved
+loop-k-preserved g c =
+    let at = goal.at.loop-k-preserved g c in
+    walking_on c.loop-k.invariant (more g at.After-judge) (judged g at.After-judge) (answered g at.After-ok_or ∙ c.in_ok-r.was)
 
 pub returns : goal.returns
-returns c = walking_end c.loop-left.invariant.1 c.loop-left-test.false
+returns g c =
+    walking_end c.loop-k.invariant
+    (omega (arith, c.loop-k-test.false, c.count-k-end.ensures ∙ ap (count_of c.args.records.now.counts) c.SECTION.ensures))

@@ -1,4 +1,3 @@
-use Prim.Native.Nat.{◌-◌, ◌≤◌}
 use lib.ListN.{take}
 use Rattle.image.specs.Encode.{u32_bytes}
 use Rattle.image.specs.Kind.{concat}
@@ -6,7 +5,4 @@ use Rattle.report.specs.Writing.{Laid}
 use Rattle.report.proofs.head.incoming.Given as goal
 
 abbrev pub invariant-loop-i : goal.invariant-loop-i
-invariant-loop-i l = (l.i ≤ l.interfaces) × Laid l.at (concat u32_bytes (take l.i l.counts)) l.initial.out l.out
-
-abbrev pub decreases-loop-i : goal.decreases-loop-i
-decreases-loop-i l = l.interfaces - l.i
+invariant-loop-i l = Laid l.at (concat u32_bytes (take l.i l.counts)) l.initial.out l.out

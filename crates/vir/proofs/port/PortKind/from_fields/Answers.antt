@@ -1,8 +1,8 @@
+use Rattle.std.specs.Prelude.{None}
 use mathlib.Core.Path.{sym, ap}
 use lib.ListN.{get_or-eq_default}
 use Prim.Native.Nat.{ℕ}
 use Rattle.vir.proofs.Arms.{past}
-use Rattle.vir.specs.declared.port.FoundPort.TheVariants.{Nothing}
 use Rattle.vir.specs.Port.{port_of, ports}
 use Rattle.vir.proofs.port.PortKind.from_fields.Goals as goal
 
@@ -40,4 +40,4 @@ returns-in-7 c = sym (ap (λ (n : ℕ). port_of n c.args.a c.args.b) c.in-7.is)
 
 pub returns-in_default : goal.returns-in_default
 unfolding port_of
-returns-in_default c = sym (get_or-eq_default (ports c.args.a c.args.b) Nothing (past 8 c.args.kind c.in_default.in_default-own.rest))
+returns-in_default c = sym (get_or-eq_default (ports c.args.a c.args.b) None (past 8 c.args.kind c.in_default.in_default-own.rest))

@@ -1,8 +1,8 @@
+use Rattle.std.specs.Prelude.{None, Some}
 use mathlib.Core.Path.{◌∙◌, sym, ap}
 use lib.ListN.{get_or-eq_default}
 use Prim.Native.Nat.{ℕ}
 use Rattle.vir.proofs.Arms.{past}
-use Rattle.vir.specs.declared.step.FoundStep.TheVariants.{Step, Nothing}
 use Rattle.vir.specs.declared.step.Step.TheVariants.{Diverge}
 use Rattle.vir.specs.Step.{step_of, steps}
 use Rattle.vir.proofs.step.Step.from_fields.Goals as goal
@@ -38,7 +38,7 @@ returns-in-6 c = sym (ap (λ (n : ℕ). step_of n c.args.a c.args.b) c.in-6.is)
 pub returns-in-7 : goal.returns-in-7
 unfolding step_of
 returns-in-7 c =
-    (λ i. Step (Diverge (c.from_target.ensures i) (c.from_field.ensures i)))
+    (λ i. Some (Diverge (c.from_target.ensures i) (c.onward.ensures i)))
     ∙ sym (ap (λ (n : ℕ). step_of n c.args.a c.args.b) c.in-7.is)
 
 pub returns-in-8 : goal.returns-in-8
@@ -95,4 +95,4 @@ returns-in-20 c = sym (ap (λ (n : ℕ). step_of n c.args.a c.args.b) c.in-20.is
 
 pub returns-in_default : goal.returns-in_default
 unfolding step_of
-returns-in_default c = sym (get_or-eq_default (steps c.args.a c.args.b) Nothing (past 21 c.args.tag c.in_default.in_default-own.rest))
+returns-in_default c = sym (get_or-eq_default (steps c.args.a c.args.b) None (past 21 c.args.tag c.in_default.in_default-own.rest))

@@ -1,7 +1,0 @@
-use mathlib.Core.Path.{refl}
-use Rattle.report.proofs.Laying.{laid_then}
-use Rattle.report.proofs.bytes.put_u32.Goals as goal
-
-pub returns : goal.returns
-returns c =
-    laid_then _ _ c.put_u16.ensures refl c.put_u16-2.ensures

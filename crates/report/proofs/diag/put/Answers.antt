@@ -1,9 +1,0 @@
-use mathlib.Core.Path.{refl}
-use Rattle.report.proofs.Laying.{laid_then}
-use Rattle.report.proofs.diag.put.Goals as goal
-
-pub returns : goal.returns
-returns c =
-    laid_then _ _
-    (laid_then _ _ (laid_then _ _ c.put_u8.ensures refl c.put_u32.ensures) refl c.put_u16.ensures) refl
-    c.put_u16-2.ensures
