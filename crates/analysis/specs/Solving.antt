@@ -18,7 +18,7 @@ pub record Solvable (v : Vir) (c : Counts) (z : Built) (r : List Relation) (st e
   pub held : Held (network_of v) r b t d z
   pub apart : Apart (network_of v)
   pub fillable : Fillable c.stages z t d
-  pub entered : Entered (relations_of r z.relations) z.vars st en
+  pub entered : Entered (relations_of r z.relations) z.vars r st en
   pub based : z.vars ≤ length b
   pub few : z.vars ≤ 7937
 

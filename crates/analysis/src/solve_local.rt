@@ -25,6 +25,5 @@ pub fn solve_local(
 {
     fill_segments(image, l, inv, z, seeds, effects);
     let filled = &mut effects[..z.vars as usize];
-    let rows = &relations.rows[..z.relations as usize];
-    fixed_point(inv, Relations { rows, ..relations }, filled, stack)
+    fixed_point(inv, relations, z.relations as usize, filled, stack)
 }

@@ -37,7 +37,8 @@ dependents_of-requires c =
     let at = (goal.at.dependents_of-requires c).In-Some in
     let entered = entered_as c.args.effects.now c.requires.entered in
     let q = c.in-Some.ensures.state in
-    rw q.1 (record { started = (asked at).started; entered = entered.entered _ (v_in c.loop-v.invariant.1 entered q.0) })
+    let e = entered.entered _ (v_in c.loop-v.invariant.1 entered q.0) in
+    rw q.1 (record { started = (asked at).started; ordered = e.ordered; ended = e.ended })
 
 pub hand_out-requires : goal.hand_out-requires
 hand_out-requires c =
