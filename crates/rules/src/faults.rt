@@ -114,9 +114,9 @@ fn closure_named(records: &Records, run: Run, n: u16) -> bool
     ensures { result ≡ closure_at records.now.bytes.now (list_at records.now.counts run) n }
 {
     let k = run.first as usize;
-    records.reference(k) < n
-        && or_none(n, records.reference(k + 1))
-        && or_none(n, records.reference(k + 2))
+    (records.reference(k) < n)
+        & or_none(n, records.reference(k + 1))
+        & or_none(n, records.reference(k + 2))
 }
 
 #[tactic(auto, using(crate::proofs::Cases::entries_case))]
@@ -137,8 +137,8 @@ fn interface_fields(c: Counts, r: Running, i: InterfaceRecord) -> bool
     ensures { result ≡ interface_fields c r i }
 {
     kind_lists(i.kind, i.list.count)
-        && (i.kind == InterfaceKind::Match as u8 || i.key == 0)
-        && laid(r.refs, c.refs, i.list)
+        & ((i.kind == InterfaceKind::Match as u8) | (i.key == 0))
+        & laid(r.refs, c.refs, i.list)
 }
 
 #[tactic(auto, unfolding(crate::specs::Faults::interface_good))]
