@@ -2,13 +2,11 @@
 use Rattle.std.specs.Prelude.{None, Option, Some}
 use mathlib.Core.Path.{◌≡◌, refl, sym, subst}
 use mathlib.Core.Bool.{Bool, true, false, cond, ◌&&◌, ◌||◌, true≢false}
-use mathlib.Core.List.{List, [], ◌∷◌}
-use Prim.{Unit, tt}
-use Prim.Native.Nat.{ℕ, zero, suc, ◌+◌, ◌≤◌, ◌<◌, min}
-use native.Mathlib.Nat.{add-zero, zero-add, min-eq_left}
+use Prim.{tt}
+use Prim.Native.Nat.{ℕ, ◌≤◌, ◌<◌, min}
+use native.Mathlib.Nat.{zero-add, min-eq_left}
 use native.Mathlib.Omega.{arith}
 use lib.Dec.{eqb, ltb, leb}
-use lib.ListN.{length, get_or}
 use borrow.Author.Tests.{eqb-true, ltb-true, leb-true}
 use Rattle.vir.proofs.Numbered.{kind_number_lem, header_number_lem, step-tag}
 use Rattle.vir.specs.Header.{header_of, header_number}
@@ -20,6 +18,7 @@ use Rattle.records.specs.declared.layout.Counts.{Counts}
 use Rattle.records.specs.declared.record.Run.{Run}
 use Rattle.image.specs.Encode.{step_a, step_b, onward_b, port_a, port_b}
 use Rattle.rules.specs.Faults.{or_none, kind_lists, header_has, step_has, step_named}
+use Rattle.rules.proofs.Cases.{◌▸◌, each_at}
 use Rattle.image.specs.View.{kind_in, header_in, step_in, port_in}
 use Rattle.records.proofs.Guards.{left_true}
 use Rattle.vir.specs.declared.port.PortKind.{PortKind}
@@ -47,23 +46,6 @@ step_back n a b m = go (step_of n a b) refl
     go : (k : Option Step) → step_of n a b ≡ k → step_has k m ≡ true → n ≡ step_tag (step_in k)
     go (Some k) e h = sym (step-tag n a b k e)
     go None e h = absurd (true≢false (sym h))
-
--- P of each entry of a list with its number, from n on
-abbrev pub Each : {A : Type 0} → (ℕ → A → Type 0) → ℕ → List A → Type 0
-Each P n [] = Unit {0}
-Each P n (x ∷ xs) = P n x × Each P (suc n) xs
-
-infixr 40 ◌▸◌
-abbrev pub ◌▸◌ : {A B : Type 0} → A → B → A × B
-a ▸ b = (a, b)
-
--- with P of what stands past them too, it is P of what is read at any number
-pub each_at : {A : Type 0} (P : ℕ → A → Type 0) (n : ℕ) (l : List A) (d : A) → Each P n l → ((i : ℕ) → n + length l ≤ i → P i d)
-    → (i : ℕ) → P (n + i) (get_or l i d)
-each_at P n [] d t past i = past (n + i) (omega arith)
-each_at P n (x ∷ xs) d t past zero = subst (λ (k : ℕ). P k x) (sym (add-zero n)) t.0
-each_at P n (x ∷ xs) d t past (suc i) =
-    subst (λ (k : ℕ). P k (get_or xs i d)) (omega arith) (each_at P (suc n) xs d t.1 (λ i h. past i (omega arith)) i)
 
 onward_back : (b : ℕ) → onward_b (onward_of b) ≡ b
 onward_back b = go (eqb b none) refl

@@ -44,5 +44,6 @@ pub fn processed(image: &Image, incoming: &[u32], l: Local) -> bool
     requires interfaces_in_bounds { image.now.records.counts.interfaces ≤ length incoming.now }
     ensures { result ≡ processed (view image.now.records.bytes.now) (take image.now.records.counts.interfaces incoming.now) l.0 }
 {
-    declared(image, incoming, l) && local(image, l).flags / 8 % 2 != 1
+    let info = local(image, l);
+    declared(image, incoming, l) & (info.flags / 8 % 2 != 1)
 }

@@ -42,7 +42,8 @@ use Rattle.image.proofs.Gathered.{nth_ref, nth_port, nth_action, nth_flex, nth_l
 use Rattle.image.proofs.Numbers.{half-below}
 use Rattle.image.proofs.Reading.{counts-read}
 use Rattle.image.proofs.RoundTrip.{encode-view, actions_are, ports_are}
-use Rattle.image.proofs.Tags.{◌▸◌, each_at, kind_back}
+use Rattle.image.proofs.Tags.{kind_back}
+use Rattle.rules.proofs.Cases.{◌▸◌, each_at}
 use Rattle.image.proofs.Viewing.{length-collect}
 use Rattle.wellformed.specs.WellFormed.{u16_fits, u32_fits, layer_fits, interface_fits, stage_fits, local_fits, onward_fits, step_fits, action_fits, port_kind_fits, port_fits, flex_fits, WellFormed}
 use Rattle.wellformed.proofs.Entries.{refs_same, entries_same}
