@@ -4,6 +4,7 @@
 // then n bytes where there are any. Little-endian. A failed read or write ends the run with its error.
 #![tactic(auto)]
 
+ghost use Rattle.std.specs.Prelude.{◌≤◌, ◌<◌};
 ghost use Rattle.std.specs.Io.{ReadsAtMost};
 
 use image::answer::Answer;
@@ -11,9 +12,8 @@ use image::check::check_long;
 use ownership::vine_check;
 use records::bytes::u32_at;
 use records::layout::HEAD;
-use std::error::Error;
+use std::io;
 use std::io::{Read, Write};
-use std::{fmt, io};
 
 // The one call that is answered.
 const CHECK: u8 = 0;
@@ -28,18 +28,6 @@ enum BatchError {
     CutShort,
     UnknownCall,
 }
-
-impl fmt::Display for BatchError {
-    fn fmt<W: fmt::Write>(&self, f: &mut fmt::Formatter<W>) -> fmt::Result {
-        match self {
-            BatchError::Io(e) => write!(f, "batch: {e}"),
-            BatchError::CutShort => write!(f, "batch: a frame is cut short"),
-            BatchError::UnknownCall => write!(f, "batch: an unknown call"),
-        }
-    }
-}
-
-impl Error for BatchError {}
 
 impl From<io::Error> for BatchError {
     fn from(e: io::Error) -> BatchError {
@@ -104,6 +92,33 @@ impl Header {
     }
 }
 
+// Checks the image of so many bytes that comes next, which has room in the buffer.
+fn check_whole<R: Read>(
+    input: &mut R,
+    length: usize,
+    buffer: &mut [u8; LARGEST],
+) -> Result<Answer, BatchError>
+    requires { length ≤ 63893 }
+{
+    let image = &mut buffer[..length];
+    fill(input, image)?;
+    Ok(vine_check(image))
+}
+
+// An image longer than any accepted one is answered by its first bytes; the rest is read past.
+fn check_front<R: Read>(
+    input: &mut R,
+    length: usize,
+    buffer: &mut [u8; LARGEST],
+) -> Result<Answer, BatchError>
+    requires { 63893 < length }
+{
+    let mut front = [0; HEAD];
+    fill(input, &mut front)?;
+    skip(input, length - HEAD, buffer)?;
+    Ok(check_long(&front))
+}
+
 // Checks the image of so many bytes that comes next.
 fn check_next<R: Read>(
     input: &mut R,
@@ -111,15 +126,10 @@ fn check_next<R: Read>(
     buffer: &mut [u8; LARGEST],
 ) -> Result<Answer, BatchError> {
     if length <= LARGEST {
-        let image = &mut buffer[..length];
-        fill(input, image)?;
-        return Ok(vine_check(image));
+        check_whole(input, length, buffer)
+    } else {
+        check_front(input, length, buffer)
     }
-    // longer than any accepted one, it is answered by its first bytes; the rest is read past
-    let mut front = [0; HEAD];
-    fill(input, &mut front)?;
-    skip(input, length - HEAD, buffer)?;
-    Ok(check_long(&front))
 }
 
 // An answer is flushed at once, for a caller that waits for it before its next frame.
@@ -145,7 +155,8 @@ fn answer_all<R: Read, W: Write>(input: &mut R, output: &mut W) -> Result<(), Ba
     Ok(())
 }
 
-// A frame that cannot be answered ends the run with a line that says why, and is no failure of the run's.
+// A frame that cannot be answered ends the run with a line that says why, and is no failure of the run's. The line is one write, so that no
+// other program's stands within it.
 fn run<R: Read, W: Write, E: Write>(
     input: &mut R,
     output: &mut W,
@@ -154,7 +165,8 @@ fn run<R: Read, W: Write, E: Write>(
     match answer_all(input, output) {
         Ok(()) => Ok(()),
         Err(BatchError::Io(e)) => Err(e),
-        Err(refusal) => writeln!(errors, "{refusal}"),
+        Err(BatchError::CutShort) => errors.write_all(b"batch: a frame is cut short\n"),
+        Err(BatchError::UnknownCall) => errors.write_all(b"batch: an unknown call\n"),
     }
 }
 

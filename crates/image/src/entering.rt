@@ -1,29 +1,33 @@
 // The layer rules of document 01 that look at steps: Transfers enter layers from their parents, and Diverges name layers around them.
-ghost use Rattle.std.specs.Prelude.{◌≡◌, true, ◌&&◌, ◌||◌, ◌+◌, ◌≤◌, ◌<◌, eqb, is_some, IfSome, length, get_or, set};
+ghost use Rattle.std.specs.Prelude.{◌≡◌, true, [], ◌∷◌, ◌&&◌, ◌||◌, ◌+◌, ◌≤◌, ◌<◌, eqb, is_some, IfSome, length, get_or, set};
 ghost use Rattle.vir.specs.Ids.{none};
 ghost use Rattle.image.specs.Entering.{action_at, actions_of, enters_of, diverges_of, enterable, lies_in};
+ghost use Rattle.records.specs.declared.layout.Section.TheVariants.{Steps};
 ghost use Rattle.records.specs.Every.{every};
+ghost use Rattle.records.specs.Layout.{place_of};
 ghost use Rattle.image.specs.Kind.{all, concat};
 ghost use Rattle.image.specs.LayerRules.{entries, targets, entered_from_parent, diverges_out};
 ghost use Rattle.image.specs.Tally.{bump, tally};
 ghost use Rattle.image.specs.View.{step_in};
 ghost use Rattle.image.specs.Viewed.{viewed};
-ghost use Rattle.image.specs.Vir.{layer_of, stage_of};
+ghost use Rattle.image.specs.Vir.{interface_of, layer_of, stage_of};
 
 use crate::layer_rules::lies_within;
 use crate::layered::Layered;
 use crate::tally::bump;
 use records::Records;
-use records::record::{InterfaceRecord, LayerRecord, Run, StageRecord, StepRecord};
-use vir::ids::LayerId;
+use records::layout::STEP;
+use records::record::{InterfaceRecord, LayerRecord, Record, Run, StageRecord, StepRecord};
+use vir::ids::{InterfaceId, LayerId};
 use vir::step::Step;
 
-// Step k; nothing if its tag names none, which is so in no accepted image.
-fn step(records: &Records, k: usize) -> Option<Step>
-    requires { k < records.now.counts.steps }
+// The step k, which stands at p; nothing if its tag names none, which is so in no accepted image. (k is for the promise alone.)
+fn step(records: &Records, k: usize, p: usize) -> Option<Step>
+    requires in_bounds { k < records.now.counts.steps }
+    requires stands { p ≡ place_of records.now.counts Steps k }
     ensures { step_in result ≡ (action_at records.now.bytes.now records.now.counts k).step }
 {
-    let record: StepRecord = records.nth(k);
+    let record = StepRecord::read(records.bytes, p);
     Step::from_fields(record.tag, record.a, record.b)
 }
 
@@ -40,36 +44,59 @@ fn enter(records: &Records, l: LayerId, m: LayerId, counts: &mut [u8; 256]) -> b
     (layer.parent == LayerId::NONE) | (layer.parent == l)
 }
 
-// The step k, which stands in the layer l, enters its interface's layer if it is a Transfer.
-#[tactic(auto, using(crate::proofs::Entered::entering), unfolding(crate::specs::Kind::all, crate::specs::Kind::concat, crate::specs::Tally::tally))]
-fn enter_step(layered: &Layered, l: LayerId, k: usize, counts: &mut [u8; 256]) -> bool
-    requires { k < layered.now.image.records.counts.steps }
-    ensures { (result ≡ all (enterable (viewed layered.now.image.records) l.0) (enters_of (viewed layered.now.image.records) (action_at layered.now.image.records.bytes.now layered.now.image.records.counts k)))
-        × (counts.new ≡ tally (enters_of (viewed layered.now.image.records) (action_at layered.now.image.records.bytes.now layered.now.image.records.counts k)) counts.old) }
+// The interface i, which a step of the layer l goes on to: its layer is entered from l.
+#[tactic(auto, using(crate::proofs::Entered::entering), unfolding(crate::specs::Tally::tally))]
+fn enter_step(layered: &Layered, l: LayerId, i: InterfaceId, counts: &mut [u8; 256]) -> bool
+    requires { i.0 < layered.now.image.records.counts.interfaces }
+    ensures { (result ≡ enterable (viewed layered.now.image.records) l.0 (interface_of (viewed layered.now.image.records) i.0).layer)
+        × (counts.new ≡ tally ((interface_of (viewed layered.now.image.records) i.0).layer ∷ []) counts.old) }
 {
     let records = &layered.image.records;
-    let Some(Step::Transfer(i)) = step(records, k) else {
-        return true;
-    };
     let to: InterfaceRecord = records.nth(i.0 as usize);
     enter(records, l, to.layer, counts)
 }
 
-// The step k, which stands in the layer l, names l or a layer around it if it is a Diverge. `known` is a layer that l is or lies in, the last
-// that a Diverge named: jumps to the same layer climb once. Nothing is known any more once one named another.
-#[tactic(auto, unfolding(crate::specs::Kind::all))]
-fn diverge_step(layered: &Layered, l: LayerId, k: usize, known: Option<LayerId>) -> Option<LayerId>
+// A step of the layer l jumps to m, which is l or a layer around it. `known` is a layer that l is or lies in, the last that a Diverge named: jumps
+// to the same layer climb once. Nothing is known any more once one named another.
+fn diverge_step(
+    layered: &Layered,
+    l: LayerId,
+    m: LayerId,
+    known: Option<LayerId>,
+) -> Option<LayerId>
     requires l_lt_layers { l.0 < layered.now.image.records.counts.layers }
-    requires k_lt_steps { k < layered.now.image.records.counts.steps }
     requires known_value { IfSome known (λ m. lies_in (viewed layered.now.image.records) l.0 m.0 ≡ true) }
-    ensures { (is_some result ≡ (is_some known && all (lies_in (viewed layered.now.image.records) l.0) (diverges_of (action_at layered.now.image.records.bytes.now layered.now.image.records.counts k))))
+    ensures { (is_some result ≡ (is_some known && lies_in (viewed layered.now.image.records) l.0 m.0))
         × IfSome result (λ m. lies_in (viewed layered.now.image.records) l.0 m.0 ≡ true) }
 {
-    let Some(Step::Diverge(m, _)) = step(&layered.image.records, k) else {
-        return known;
-    };
     let last = known?;
-    ((m == last) || lies_within(layered, l, m)).then_some(m)
+    ((m == last) || lies_within(&layered.image.records, l, m)).then_some(m)
+}
+
+// The step k, which stands at p and in the layer l: whether it enters no layer but from its parent, and what is known of jumps behind it.
+#[tactic(auto, using(crate::proofs::Entered::entering), unfolding(crate::specs::Kind::all, crate::specs::Kind::concat, crate::specs::Tally::tally))]
+fn jump_step(
+    layered: &Layered,
+    l: LayerId,
+    k: usize,
+    p: usize,
+    known: Option<LayerId>,
+    counts: &mut [u8; 256],
+) -> (bool, Option<LayerId>)
+    requires l_lt_layers { l.0 < layered.now.image.records.counts.layers }
+    requires k_lt_steps { k < layered.now.image.records.counts.steps }
+    requires stands { p ≡ place_of layered.now.image.records.counts Steps k }
+    requires known_value { IfSome known (λ m. lies_in (viewed layered.now.image.records) l.0 m.0 ≡ true) }
+    ensures entered { (result.0 ≡ all (enterable (viewed layered.now.image.records) l.0) (enters_of (viewed layered.now.image.records) (action_at layered.now.image.records.bytes.now layered.now.image.records.counts k)))
+        × (counts.new ≡ tally (enters_of (viewed layered.now.image.records) (action_at layered.now.image.records.bytes.now layered.now.image.records.counts k)) counts.old) }
+    ensures out { (is_some result.1 ≡ (is_some known && all (lies_in (viewed layered.now.image.records) l.0) (diverges_of (action_at layered.now.image.records.bytes.now layered.now.image.records.counts k))))
+        × IfSome result.1 (λ m. lies_in (viewed layered.now.image.records) l.0 m.0 ≡ true) }
+{
+    match step(&layered.image.records, k, p) {
+        Some(Step::Transfer(i)) => (enter_step(layered, l, i, counts), known),
+        Some(Step::Diverge(m, _)) => (true, diverge_step(layered, l, m, known)),
+        _ => (true, known),
+    }
 }
 
 // What the Transfers and the Diverges so far came to.
@@ -90,9 +117,12 @@ fn jump_run(layered: &Layered, l: LayerId, run: Run, counts: &mut [u8; 256]) -> 
 {
     let mut entered = true;
     let mut known = Some(l);
+    let mut p = layered.image.records.counts.steps_at() + STEP * run.start();
     for k in run.start()..run.end() {
-        entered &= enter_step(layered, l, k, counts);
-        known = diverge_step(layered, l, k, known);
+        let (enters, next) = jump_step(layered, l, k, p, known, counts);
+        entered &= enters;
+        known = next;
+        p += STEP;
     }
     Jumps {
         entered,

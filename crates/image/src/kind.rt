@@ -16,7 +16,7 @@ use records::record::{InterfaceRecord, StageRecord};
 use vir::ids::InterfaceId;
 
 // Whether no stage has a transfer.
-fn transfers_none(records: &Records) -> bool
+pub fn transfers_none(records: &Records) -> bool
     ensures { result ≡ every (length (viewed records.now).stages) (λ t. eqb (stage_of (viewed records.now) t).transfer none) }
 {
     for t in 0..records.counts.stages as usize {

@@ -1,9 +1,8 @@
 // The layer rules of document 01 that look at layers and interfaces alone, and the climb from a layer to those that it lies in.
-ghost use Rattle.std.specs.Prelude.{◌≡◌, ◌<◌, length};
+ghost use Rattle.std.specs.Prelude.{◌≡◌, true, ◌<◌, length};
 ghost use Rattle.image.specs.LayerRules.{parents_below, interfaces_lie, lies_within};
 ghost use Rattle.image.specs.Viewed.{viewed};
 
-use crate::layered::Layered;
 use records::Records;
 use records::record::{InterfaceRecord, LayerRecord};
 use vir::ids::LayerId;
@@ -34,13 +33,14 @@ pub fn interfaces_lie(records: &Records) -> bool
 
 // Whether a layer is another or lies in it. Parents fall, so each climb ends.
 #[tactic(auto, using(crate::proofs::Climbing::climbing))]
-pub(crate) fn lies_within(layered: &Layered, l: LayerId, outer: LayerId) -> bool
-    requires { l.0 < layered.now.image.records.counts.layers }
-    ensures { result ≡ lies_within (viewed layered.now.image.records) (length (viewed layered.now.image.records).layers) l.0 outer.0 }
+pub fn lies_within(records: &Records, l: LayerId, outer: LayerId) -> bool
+    requires l_lt_layers { l.0 < records.now.counts.layers }
+    requires below { parents_below (viewed records.now) ≡ true }
+    ensures { result ≡ lies_within (viewed records.now) (length (viewed records.now).layers) l.0 outer.0 }
 {
     let mut at = l;
     while at != outer {
-        let layer: LayerRecord = layered.image.records.nth(at.0 as usize);
+        let layer: LayerRecord = records.nth(at.0 as usize);
         if layer.parent == LayerId::NONE {
             return false;
         }

@@ -62,7 +62,7 @@ fn tally_entry(records: &Records, owner: Owner, e: u16, ok: bool, counts: &mut [
 }
 
 // The entries of a list of refs.
-pub(crate) fn tally_run(records: &Records, run: Run, owner: Owner, counts: &mut [u8; 256]) -> bool
+pub fn tally_run(records: &Records, run: Run, owner: Owner, counts: &mut [u8; 256]) -> bool
     requires fits { run.first + run.count ≤ records.now.counts.refs }
     requires named { (k : ℕ) → run.first ≤ k → k < run.first + run.count → (u16_at records.now.bytes.now (refs_at records.now.counts + 2 * k) ≡ none → ⊥)
         → u16_at records.now.bytes.now (refs_at records.now.counts + 2 * k) < records.now.counts.stages }

@@ -6,22 +6,39 @@ use Prim.Native.Nat.{ℕ, suc, ◌+◌, ◌*◌, ◌-◌, ◌≤◌, ◌<◌}
 use native.Mathlib.Numerals.{add-one}
 use native.Mathlib.Nat.{mul-zero, mul-suc}
 use native.Mathlib.Omega.{arith}
-use lib.ListN.{get_or, drop}
+use lib.ListN.{length, get_or, drop}
 use lib.Seq.{drop-cons}
 use Rattle.records.specs.declared.layout.Counts.{Counts}
 use Rattle.records.specs.declared.layout.Section.{Section}
-use Rattle.records.specs.declared.layout.Section.TheVariants.{Ports}
+use Rattle.records.specs.declared.layout.Section.TheVariants.{Layers, Interfaces, Stages, Locals, Types, Steps, Ports}
 use Rattle.records.specs.declared.running.Running.{Running}
 use Rattle.judging.specs.Judge.{judge, after, walk, walk_section, onwards, walk_all}
-use Rattle.records.specs.Layout.{sections, size_of, count_of, start_of, place_of}
+use Rattle.records.specs.Layout.{sections, size_of, count_of, start_of, place_of, Sized}
 use Rattle.records.specs.declared.running.Fault.{Fault}
+
+-- every record stands within the bytes
+pub record_room : (s : List ℕ) (c : Counts) (x : Section) (k : ℕ) → Sized s c → k < count_of c x → place_of c x k + size_of x ≤ length s
+record_room s c Layers k z h = omega (arith, z.long)
+record_room s c Interfaces k z h = omega (arith, z.long)
+record_room s c Stages k z h = omega (arith, z.long)
+record_room s c Locals k z h = omega (arith, z.long)
+record_room s c Types k z h = omega (arith, z.long)
+record_room s c Steps k z h = omega (arith, z.long)
+record_room s c Ports k z h = omega (arith, z.long)
+
+-- .. of which there are no more than an image may have
+pub most_bytes : (s : List ℕ) (c : Counts) → Sized s c → length s ≤ 63893
+most_bytes s c z = omega (arith, z.long, z.layers, z.interfaces, z.stages, z.locals, z.types, z.steps, z.ports, z.refs)
 
 -- a record, and what is ahead of it
 walk_step : (f : ℕ → Running → Option Running) (size n p : ℕ) (r : Running) → walk f size (suc n) p r ≡ after p (f p r) (λ q. walk f size n (p + size) q)
 unfolding walk
 walk_step f size n p r = refl
 
-next_place : (c : Counts) (x : Section) (k : ℕ) → place_of c x (k + 1) ≡ place_of c x k + size_of x
+pub first_place : (c : Counts) (x : Section) → start_of c x ≡ place_of c x 0
+first_place c x = let none : size_of x * 0 ≡ 0 = mul-zero (size_of x) in omega (arith, none)
+
+pub next_place : (c : Counts) (x : Section) (k : ℕ) → place_of c x (k + 1) ≡ place_of c x k + size_of x
 next_place c x k = let more : size_of x * (k + 1) ≡ size_of x * k + size_of x = ap (λ (n : ℕ). size_of x * n) (add-one k) ∙ mul-suc (size_of x) k in omega (arith, more)
 
 -- what is ahead of record k of a section
@@ -31,9 +48,8 @@ pub record Walking (s : List ℕ) (c : Counts) (x : Section) (target : Result Ru
 
 pub walking_start : (s : List ℕ) (c : Counts) (x : Section) (r : Running) → Walking s c x (walk_section s c x r) 0 r
 walking_start s c x r =
-    let first : place_of c x 0 ≡ start_of c x = let none : size_of x * 0 ≡ 0 = mul-zero (size_of x) in omega (arith, none) in
     let all : count_of c x - 0 ≡ count_of c x = omega arith in
-    record { within = omega arith; ahead = ap₂ (λ (n p : ℕ). walk (judge x s c) (size_of x) n p r) all first }
+    record { within = omega arith; ahead = ap₂ (λ (n p : ℕ). walk (judge x s c) (size_of x) n p r) all (sym (first_place c x)) }
 
 module _ {s : List ℕ} {c : Counts} {x : Section} {target : Result Running Fault} {k : ℕ} {r : Running} (w : Walking s c x target k r) (h : k < count_of c x) where
   split : after (place_of c x k) (judge x s c (place_of c x k) r) (λ q. walk (judge x s c) (size_of x) (count_of c x - (k + 1)) (place_of c x (k + 1)) q) ≡ target

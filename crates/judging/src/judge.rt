@@ -33,7 +33,7 @@ impl Judge for LayerRecord {
     ghost of_section = { λ s c p r. refl };
 
     fn judge(self, records: &Records, r: Running) -> Option<Running> {
-        if !layer_good(records, r, self) {
+        if !layer_good(records.bytes, records.counts, r, self) {
             return None;
         }
         Some(Running {
@@ -49,7 +49,7 @@ impl Judge for InterfaceRecord {
     ghost of_section = { λ s c p r. refl };
 
     fn judge(self, records: &Records, r: Running) -> Option<Running> {
-        if !interface_good(records, r, self) {
+        if !interface_good(records.bytes, records.counts, r, self) {
             return None;
         }
         Some(Running {
@@ -65,7 +65,7 @@ impl Judge for StageRecord {
     ghost of_section = { λ s c p r. refl };
 
     fn judge(self, records: &Records, r: Running) -> Option<Running> {
-        if !stage_good(records, r, self) {
+        if !stage_good(records.bytes, records.counts, r, self) {
             return None;
         }
         let payload = self.payload;

@@ -10,16 +10,18 @@ use records::record::{
 };
 use records::running::{Fault, Running};
 
-// The records of one section.
+// The records of one section. The place goes along: to work it out for each record is dear where there is little to judge.
 fn walk_section<R: Judge>(records: &Records, from: Running) -> Result<Running, Fault>
     ensures { result ≡ walk_section records.now.bytes.now records.now.counts R.SECTION from }
 {
     let mut r = from;
-    for k in 0..R::SECTION.count(records.counts) {
-        let record: R = records.nth(k);
-        r = record
-            .judge(records, r)
-            .ok_or(Fault(records.place::<R>(k) as u32))?;
+    let mut p = R::SECTION.start(records.counts);
+    for _k in 0..R::SECTION.count(records.counts) {
+        let Some(next) = R::read(records.bytes, p).judge(records, r) else {
+            return Err(Fault(p as u32));
+        };
+        r = next;
+        p += R::SECTION.size();
     }
     Ok(r)
 }

@@ -1,4 +1,4 @@
-// The head, and before it how often each interface is come to.
+// The head, and behind it how often each interface is come to.
 ghost use Rattle.std.specs.Prelude.{◌≡◌, ◌+◌, ◌*◌, ◌≤◌, min, length};
 ghost use Rattle.image.specs.Encode.{u32_bytes};
 ghost use Rattle.image.specs.Kind.{concat};

@@ -1,5 +1,5 @@
 -- What the fields' tests show of a list of refs, and the cases of an interface's entries.
-use mathlib.Core.Path.{◌≡◌, ◌∙◌, ap, subst}
+use mathlib.Core.Path.{◌≡◌, subst}
 use mathlib.Core.Bool.{Bool, true, ◌&&◌, ◌||◌}
 use mathlib.Core.List.{List}
 use Prim.Native.Nat.{ℕ, ◌+◌, ◌*◌, ◌≤◌, ◌<◌}
@@ -16,10 +16,7 @@ use Rattle.records.specs.declared.record.StepRecord.{StepRecord}
 use Rattle.records.specs.declared.running.Running.{Running}
 use Rattle.records.specs.Bytes.{u16_at}
 use Rattle.records.specs.Every.{every}
-use Rattle.records.specs.Layout.{refs_at, ref_size}
-use Rattle.rules.specs.Faults.{or_none, laid, list_at, refs_below, layer_fields, kind_lists, closure_at, entries_named, interface_fields, stage_named, stage_lists, stage_fields, ports_laid, step_named}
-use Rattle.std.specs.List.{list_all, range_with_len}
-use Rattle.records.proofs.Every.{every_range}
+use Rattle.rules.specs.Faults.{or_none, laid, list_at, layer_fields, kind_lists, closure_at, entries_named, interface_fields, stage_named, stage_lists, stage_fields, ports_laid, step_named}
 use Rattle.records.proofs.Guards.{left_true, right_true}
 
 pub laid-first : (running total : ℕ) (run : Run) → laid running total run ≡ true → run.first ≡ running
@@ -93,11 +90,3 @@ module _ (c : Counts) (t : StepRecord) where
 
   pub named_other : 5 < t.tag → (t.tag ≡ 6 → ⊥) → (t.tag ≡ 7 → ⊥) → eqb t.b 0 ≡ step_named c t
   named_other h k l = simp (lt-leb _ _ h, ne_eqb _ _ k, ne_eqb _ _ l)
-
--- entry k of a list is ref first + k of them all
-pub entry_ref : (s : List ℕ) (c : Counts) (run : Run) (k : ℕ) → u16_at s (refs_at c + ref_size * (run.first + k)) ≡ u16_at s (list_at c run + 2 * k)
-entry_ref s c run k = ap (u16_at s) (omega arith)
-
-pub refs_all : (s : List ℕ) (c : Counts) (run : Run) (n : ℕ)
-    → list_all (λ k. ltb (u16_at s (refs_at c + ref_size * (run.first + k))) n) (range_with_len 0 run.count) ≡ refs_below s c run n
-refs_all s c run n = every_range _ run.count ∙ (λ i. every run.count (λ k. ltb (entry_ref s c run k i) n))

@@ -1,13 +1,16 @@
 // Whether a record keeps its rule: one function for each rule of document 01.
-ghost use Rattle.std.specs.Prelude.{◌≡◌, ℕ, Some, ◌+◌, ◌≤◌};
+ghost use Rattle.std.specs.Prelude.{◌≡◌, ◌||◌, ℕ, Some, ◌+◌, ◌*◌, ◌≤◌, eqb, ltb, length};
 ghost use Rattle.vir.specs.Header.{header_of};
 ghost use Rattle.vir.specs.Interface.{kind_of};
 ghost use Rattle.vir.specs.Step.{step_of};
 ghost use Rattle.vir.specs.declared.interface.InterfaceKind.TheVariants.{Closure};
+ghost use Rattle.records.specs.Bytes.{u16_at};
+ghost use Rattle.records.specs.Every.{every};
+ghost use Rattle.records.specs.Layout.{length_of};
 ghost use Rattle.rules.specs.Faults.{or_none, type_named, flags_good, laid, list_at, refs_below, layer_fields, layer_good, kind_lists, closure_at, entries_named, interface_fields, interface_good, header_has, ports_laid, transfer_good, stage_named, stage_lists, stage_fields, stage_good, local_good, type_good, step_has, step_fields, step_good, port_good};
 
-use records::Records;
-use records::layout::Counts;
+use records::bytes::u16_at;
+use records::layout::{Counts, REF};
 use records::record::{
     InterfaceRecord, LayerRecord, LocalRecord, PortRecord, Run, StageRecord, StepRecord, TypeRecord,
 };
@@ -50,12 +53,27 @@ fn laid(running: usize, total: u16, run: Run) -> bool
     ports_laid(running, total, run, 0)
 }
 
-// Whether each of a list's refs names one of n records.
-fn refs_below(records: &Records, run: Run, n: u16) -> bool
-    requires { run.first + run.count ≤ records.now.counts.refs }
-    ensures { result ≡ refs_below records.now.bytes.now records.now.counts run n }
+// Whether each of the refs from a place on names one of n records.
+pub fn refs_below(s: &[u8], at: usize, count: u16, n: u16) -> bool
+    requires { at + 2 * count ≤ length s.now }
+    ensures { result ≡ every count (λ k. ltb (u16_at s.now (at + 2 * k)) n) }
 {
-    (0..run.count as usize).all(|k| records.reference(run.first as usize + k) < n)
+    (0..count as usize).all(|k| u16_at(s, at + REF * k) < n)
+}
+
+// Where a list's refs start.
+fn list_at(c: Counts, run: Run) -> usize
+    ensures { result ≡ list_at c run }
+{
+    c.refs_at() + REF * run.start()
+}
+
+// Whether each of a list's refs names one of n records.
+fn listed_below(s: &[u8], c: Counts, run: Run, n: u16) -> bool
+    requires { list_at c run + 2 * run.count ≤ length s.now }
+    ensures { result ≡ refs_below s.now c run n }
+{
+    refs_below(s, list_at(c, run), run.count, n)
 }
 
 pub fn local_good(c: Counts, l: LocalRecord) -> bool
@@ -101,51 +119,53 @@ fn layer_fields(c: Counts, r: Running, l: LayerRecord) -> bool
 }
 
 #[tactic(auto, unfolding(crate::specs::Faults::layer_good))]
-pub fn layer_good(records: &Records, r: Running, l: LayerRecord) -> bool
-    ensures { result ≡ layer_good records.now.bytes.now records.now.counts r l }
+pub fn layer_good(s: &[u8], c: Counts, r: Running, l: LayerRecord) -> bool
+    requires { length s.now ≡ length_of c }
+    ensures { result ≡ layer_good s.now c r l }
 {
-    let c = records.counts;
-    layer_fields(c, r, l) && refs_below(records, l.stages, c.stages)
+    layer_fields(c, r, l) && listed_below(s, c, l.stages, c.stages)
 }
 
 // A Closure's three; its fork and its drop may be missing.
-fn closure_named(records: &Records, run: Run, n: u16) -> bool
-    requires { run.first + 3 ≤ records.now.counts.refs }
-    ensures { result ≡ closure_at records.now.bytes.now (list_at records.now.counts run) n }
+fn closure_named(s: &[u8], at: usize, n: u16) -> bool
+    requires { at + 6 ≤ length s.now }
+    ensures { result ≡ closure_at s.now at n }
 {
-    let k = run.first as usize;
-    (records.reference(k) < n)
-        & or_none(n, records.reference(k + 1))
-        & or_none(n, records.reference(k + 2))
+    (u16_at(s, at) < n) & or_none(n, u16_at(s, at + 2)) & or_none(n, u16_at(s, at + 4))
 }
 
 #[tactic(auto, using(crate::proofs::Cases::entries_case))]
-fn entries_named(records: &Records, i: InterfaceRecord) -> bool
-    requires fits { i.list.first + i.list.count ≤ records.now.counts.refs }
+fn entries_named(s: &[u8], c: Counts, i: InterfaceRecord) -> bool
+    requires fits { list_at c i.list + 2 * i.list.count ≤ length s.now }
     requires three { kind_of i.kind ≡ Some Closure → i.list.count ≡ 3 }
-    ensures { result ≡ entries_named records.now.bytes.now records.now.counts i }
+    ensures { result ≡ entries_named s.now c i }
 {
-    let c = records.counts;
     match InterfaceKind::try_from(i.kind) {
-        Ok(InterfaceKind::Inspect) => refs_below(records, i.list, c.locals),
-        Ok(InterfaceKind::Closure) => closure_named(records, i.list, c.stages),
-        _ => refs_below(records, i.list, c.stages),
+        Ok(InterfaceKind::Inspect) => listed_below(s, c, i.list, c.locals),
+        Ok(InterfaceKind::Closure) => closure_named(s, list_at(c, i.list), c.stages),
+        _ => listed_below(s, c, i.list, c.stages),
     }
+}
+
+// A Match alone has a key.
+fn key_good(i: InterfaceRecord) -> bool
+    ensures { result ≡ (eqb i.kind 2 || eqb i.key 0) }
+{
+    i.kind == InterfaceKind::Match as u8 || i.key == 0
 }
 
 fn interface_fields(c: Counts, r: Running, i: InterfaceRecord) -> bool
     ensures { result ≡ interface_fields c r i }
 {
-    kind_lists(i.kind, i.list.count)
-        & ((i.kind == InterfaceKind::Match as u8) | (i.key == 0))
-        & laid(r.refs, c.refs, i.list)
+    kind_lists(i.kind, i.list.count) && key_good(i) && laid(r.refs, c.refs, i.list)
 }
 
 #[tactic(auto, unfolding(crate::specs::Faults::interface_good))]
-pub fn interface_good(records: &Records, r: Running, i: InterfaceRecord) -> bool
-    ensures { result ≡ interface_good records.now.bytes.now records.now.counts r i }
+pub fn interface_good(s: &[u8], c: Counts, r: Running, i: InterfaceRecord) -> bool
+    requires { length s.now ≡ length_of c }
+    ensures { result ≡ interface_good s.now c r i }
 {
-    interface_fields(records.counts, r, i) && entries_named(records, i)
+    interface_fields(c, r, i) && entries_named(s, c, i)
 }
 
 fn transfer_good(c: Counts, t: StageRecord) -> bool
@@ -180,11 +200,11 @@ fn stage_fields(c: Counts, r: Running, t: StageRecord) -> bool
 }
 
 #[tactic(auto, unfolding(crate::specs::Faults::stage_good))]
-pub fn stage_good(records: &Records, r: Running, t: StageRecord) -> bool
-    ensures { result ≡ stage_good records.now.bytes.now records.now.counts r t }
+pub fn stage_good(s: &[u8], c: Counts, r: Running, t: StageRecord) -> bool
+    requires { length s.now ≡ length_of c }
+    ensures { result ≡ stage_good s.now c r t }
 {
-    let c = records.counts;
-    stage_fields(c, r, t) && refs_below(records, t.declarations, c.locals)
+    stage_fields(c, r, t) && listed_below(s, c, t.declarations, c.locals)
 }
 
 // Steps are judged by comparing tags. To make the step and ask it was tried, and misses what is asked of check: on three images of the benchmark

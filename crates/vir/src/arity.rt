@@ -10,13 +10,15 @@ pub enum Arity {
 }
 
 impl Arity {
+    // Between the fewest and the most: two comparisons, whatever the case.
     pub fn allows(self, count: u16) -> bool
         ensures { result ≡ allows self count }
     {
-        match self {
-            Arity::Exactly(n) => count == n,
-            Arity::AtLeast(n) => n <= count,
-            Arity::AtMost(n) => count <= n,
-        }
+        let (fewest, most) = match self {
+            Arity::Exactly(n) => (n, n),
+            Arity::AtLeast(n) => (n, u16::MAX),
+            Arity::AtMost(n) => (0, n),
+        };
+        fewest <= count && count <= most
     }
 }

@@ -1,4 +1,5 @@
 use mathlib.Core.Path.{◌∙◌, ap}
+use native.Mathlib.Omega.{arith}
 use mathlib.Core.Bool.{Bool, ◌&&◌}
 use Rattle.image.proofs.Climbing.{lies_in_itself}
 use Rattle.image.proofs.Passing.{passing_start, passing_on, passing_end, counting_start, counting_on, counting_end}
@@ -9,6 +10,7 @@ loop-k-init c = record {
   entered = passing_start _ _ _ c.args.run c.start-k.ensures c.end-k-end.ensures;
   counted = counting_start _ _ c.args.run _ c.start-k.ensures c.end-k-end.ensures;
   out = passing_start _ _ _ c.args.run c.start-k.ensures c.end-k-end.ensures;
+  stands = omega (arith, c.steps_at.ensures, c.start.ensures, c.start-k.ensures);
   known = lies_in_itself _ _ c.args.l.0 c.requires.l_lt_layers;
 }
 
@@ -16,14 +18,17 @@ pub loop-k-preserved : goal.loop-k-preserved
 loop-k-preserved c =
     let ahead = c.loop-k.invariant in
     let more = c.loop-k-test.true in
-    let entered = c.enter_step-entered.ensures in
-    let named = c.diverge_step-known.ensures in
+    let jumped = c.jump_step-enters.ensures in
     record {
-      entered = passing_on ahead.entered more (ap (λ (b : Bool). c.loop-k.entered && b) entered.0);
-      counted = counting_on ahead.counted more entered.1;
-      out = passing_on ahead.out more named.0;
-      known = named.1;
+      entered = passing_on ahead.entered more (ap (λ (b : Bool). c.loop-k.entered && b) jumped.entered.0);
+      counted = counting_on ahead.counted more jumped.entered.1;
+      out = passing_on ahead.out more jumped.out.0;
+      stands = omega (arith, ahead.stands);
+      known = jumped.out.1;
     }
+
+pub jump_step-enters-requires-clause-stands : goal.jump_step-enters-requires-clause-stands
+jump_step-enters-requires-clause-stands c = c.loop-k.invariant.stands
 
 pub returns : goal.returns
 returns c =

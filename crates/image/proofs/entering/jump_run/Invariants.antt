@@ -1,6 +1,8 @@
 use mathlib.Core.Path.{◌≡◌}
 use mathlib.Core.Bool.{true}
 use Rattle.std.specs.Prelude.{is_some, IfSome}
+use Rattle.records.specs.declared.layout.Section.TheVariants.{Steps}
+use Rattle.records.specs.Layout.{place_of}
 use Rattle.image.specs.Entering.{action_at, enters_of, diverges_of, enterable, lies_in, actions_of}
 use Rattle.image.specs.Kind.{all, concat}
 use Rattle.image.specs.Tally.{tally}
@@ -8,7 +10,7 @@ use Rattle.image.specs.Viewed.{viewed}
 use Rattle.image.proofs.Passing.{Passing, Counting}
 use Rattle.image.proofs.entering.jump_run.Given as goal
 
--- the steps from k on
+-- the steps from k on, which stands at p
 abbrev pub invariant-loop-k : goal.invariant-loop-k
 invariant-loop-k l =
     let r = l.layered.image.records in
@@ -21,5 +23,6 @@ invariant-loop-k l =
       entered : Passing enter enters h (all enter (concat enters actions)) l.k l.k-end l.entered;
       counted : Counting enters h (tally (concat enters actions) l.initial.counts) l.k l.k-end l.counts;
       out : Passing lies diverges_of h (all lies (concat diverges_of actions)) l.k l.k-end (is_some l.known);
+      stands : l.p ≡ place_of r.counts Steps l.k;
       known : IfSome l.known (λ m. lies m.0 ≡ true);
     }

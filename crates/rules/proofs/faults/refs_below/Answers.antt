@@ -4,12 +4,11 @@ use borrow.Author.Tests.{tests}
 use Rattle.std.proofs.Common.{rules}
 use Rattle.std.proofs.lemmas.Iterator.{YieldsList-from_range}
 use Rattle.std.proofs.lemmas.Iterator.Search.{all_from_yields_List}
-use Rattle.rules.proofs.Fits.{refs_all}
+use Rattle.records.proofs.Every.{every_range}
 use Rattle.rules.proofs.faults.refs_below.Goals as goal
 
 pub returns : goal.returns
 returns c =
-    let records = c.args.records.now in
-    let run = c.args.run in
-    all_from_yields_List _ _ _ _ c.all.ensures.ran (YieldsList-from_range 0 run.count run.count refl (omega arith)) (λ x b q k. search (rules, tests))
-    ∙ refs_all records.bytes.now records.counts run c.args.n
+    let n = c.args.count in
+    all_from_yields_List _ _ _ _ c.all.ensures.ran (YieldsList-from_range 0 n n refl (omega arith)) (λ x b q k. search (rules, tests))
+    ∙ every_range _ n
