@@ -1,6 +1,6 @@
 -- Numbers that records name in a row: a test of each of them, and their count, taken from the front, one record at a time.
 use mathlib.Core.Path.{◌≡◌, ◌∙◌, refl, sym, ap, ap₂}
-use mathlib.Core.Bool.{Bool, true, ◌&&◌, and-true, and_assoc}
+use mathlib.Core.Bool.{Bool, ◌&&◌, and-true, and_assoc}
 use mathlib.Core.List.{List, [], ◌∷◌, ◌++◌}
 use Prim.Native.Nat.{ℕ, suc, ◌+◌, ◌-◌, ◌<◌, ◌≤◌}
 use native.Mathlib.Numerals.{add-one}
@@ -36,9 +36,9 @@ collect-start h run {k} {e} p q = let whole : e - k ≡ run.count = omega arith 
 pub record Passing {A : Type 0} (f : ℕ → Bool) (g : A → List ℕ) (h : ℕ → A) (answer : Bool) (k e : ℕ) (ok : Bool) : Type 0 where
   pub ahead : (ok && all f (concat g (collect h k (e - k)))) ≡ answer
 
-pub passing_start : {A : Type 0} (f : ℕ → Bool) (g : A → List ℕ) (h : ℕ → A) (run : Run) {k e : ℕ} → k ≡ run.first → e ≡ run.first + run.count
-    → Passing f g h (all f (concat g (collect h run.first run.count))) k e true
-passing_start {A} f g h run p q = record { ahead = ap (λ (l : List A). all f (concat g l)) (collect-start h run p q) }
+pub passing_start : {A : Type 0} (f : ℕ → Bool) (g : A → List ℕ) (h : ℕ → A) (run : Run) {ok : Bool} {k e : ℕ} → k ≡ run.first → e ≡ run.first + run.count
+    → Passing f g h (ok && all f (concat g (collect h run.first run.count))) k e ok
+passing_start {A} f g h run {ok} p q = record { ahead = ap (λ (l : List A). ok && all f (concat g l)) (collect-start h run p q) }
 
 module _ {A : Type 0} {f : ℕ → Bool} {g : A → List ℕ} {h : ℕ → A} {answer : Bool} {k e : ℕ} {ok : Bool} (w : Passing f g h answer k e ok) where
   pub passing_on : {ok' : Bool} → k < e → ok' ≡ (ok && all f (g (h k))) → Passing f g h answer (k + 1) e ok'

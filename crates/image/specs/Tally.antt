@@ -2,7 +2,6 @@
 use Rattle.std.specs.Prelude.{Bool, cond, ◌&&◌, List, [], ◌∷◌, ℕ, ◌+◌, ◌*◌, eqb, ltb, leb, get_or, set}
 use Rattle.vir.specs.Ids.{none}
 use Rattle.records.specs.declared.layout.Counts.{Counts}
-use Rattle.records.specs.declared.record.StageRecord.{StageRecord}
 use Rattle.image.specs.declared.tally.Owner.{Owner}
 use Rattle.image.specs.declared.tally.Owner.TheVariants.{Interface, Layer}
 use Rattle.records.specs.Bytes.{u16_at}
@@ -24,10 +23,6 @@ field_is s c f owner t = eqb (u16_at s (stages_at c + stage_size * t + f)) owner
 abbrev pub owner_is : List ℕ → Counts → Owner → ℕ → Bool
 owner_is s c (Interface i) t = field_is s c 4 i.0 t
 owner_is s c (Layer l) t = field_is s c 6 l.0 t
-
-abbrev pub owns_stage : Owner → StageRecord → Bool
-owns_stage (Interface i) t = eqb t.interface.0 i.0
-owns_stage (Layer l) t = eqb t.layer.0 l.0
 
 -- an entry that is none counts for nothing
 abbrev pub tally_entry : ℕ → List ℕ → List ℕ

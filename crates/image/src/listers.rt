@@ -10,7 +10,7 @@ ghost use Rattle.image.specs.Viewed.{viewed};
 ghost use Rattle.image.specs.Vir.{stage_of};
 
 use crate::accepted::Judged;
-use crate::tally::{Owner, tally_run};
+use crate::tally::{Owner, tally_listed};
 use records::record::{InterfaceRecord, LayerRecord, Record, Run};
 use vir::ids::{InterfaceId, LayerId};
 use vir::interface::InterfaceKind;
@@ -85,7 +85,7 @@ fn own<L: Lists>(image: &Judged, k: usize, counts: &mut [u8; 256]) -> bool
     let Some(run) = record.stages() else {
         return true;
     };
-    tally_run(&image.records, run, L::owner(k as u16), counts)
+    tally_listed(&image.records, run, L::owner(k as u16), counts)
 }
 
 // All of them.

@@ -17,14 +17,14 @@ returns-in_default g c =
     none_adds image.records.bytes.now image.records.counts image.accepted g.L.Lists.lister g.met.L.Lists.section c.args.k c.requires
     (sym c.in_default.is ∙ listed g (goal.at.returns-in_default g c).After-stages) _
 
-pub tally_run-requires-clause-named : goal.tally_run-requires-clause-named
-tally_run-requires-clause-named g c =
+pub tally_listed-requires-clause-named : goal.tally_listed-requires-clause-named
+tally_listed-requires-clause-named g c =
     let image = c.args.image.now in
     list_named image.records.bytes.now image.records.counts image.accepted g.L.Lists.lister g.met.L.Lists.section c.args.k c.requires
-    (sym c.in-Some.is ∙ listed g (goal.at.tally_run-requires-clause-named g c).After-stages)
+    (sym c.in-Some.is ∙ listed g (goal.at.tally_listed-requires-clause-named g c).After-stages)
 
 pub returns : goal.returns
 returns g c =
     let image = c.args.image.now in
     list_adds image.records.bytes.now image.records.counts image.accepted g.L.Lists.lister g.met.L.Lists.section c.args.k c.requires
-    (sym c.in-Some.is ∙ listed g (goal.at.returns g c).After-stages) c.owner.ensures _ c.tally_run.ensures.0 c.tally_run.ensures.1
+    (sym c.in-Some.is ∙ listed g (goal.at.returns g c).After-stages) c.owner.ensures _ c.tally_listed.ensures.0 c.tally_listed.ensures.1

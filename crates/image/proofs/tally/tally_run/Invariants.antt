@@ -3,7 +3,7 @@ use Rattle.records.specs.declared.layout.Counts.{Counts}
 use Rattle.records.specs.Bytes.{u16_at}
 use Rattle.records.specs.Layout.{refs_at}
 use Rattle.image.specs.Kind.{all, present}
-use Rattle.image.specs.Tally.{tally, owner_is}
+use Rattle.image.specs.Tally.{tally, field_is}
 use Rattle.image.specs.View.{refs_from}
 use Rattle.image.proofs.Tallies.{Tallying}
 use Rattle.image.proofs.tally.tally_run.Given as goal
@@ -14,7 +14,7 @@ entry s c k = u16_at s (refs_at c + 2 * k)
 
 abbrev pub invariant-loop-k : goal.invariant-loop-k
 invariant-loop-k l =
-    Tallying (owner_is l.records.bytes.now l.records.counts l.owner) (entry l.records.bytes.now l.records.counts)
-    (all (owner_is l.records.bytes.now l.records.counts l.owner) (present (refs_from l.records.bytes.now l.records.counts l.fn.run)))
+    Tallying (field_is l.records.bytes.now l.records.counts l.f l.owner) (entry l.records.bytes.now l.records.counts)
+    (all (field_is l.records.bytes.now l.records.counts l.f l.owner) (present (refs_from l.records.bytes.now l.records.counts l.fn.run)))
     (tally (present (refs_from l.records.bytes.now l.records.counts l.fn.run)) l.initial.counts)
     (l.fn.run.first + l.fn.run.count) l.k l.ok l.counts
